@@ -1,1 +1,3 @@
 pub mod Congruence
+pub mod PrimeTest
+pub mod Inverse

@@ -1,0 +1,9 @@
+-- What a prime number is.
+-- Document 01, "The field": p is a prime; that it is prime is proved.
+use mathlib.Core.Path.{_≡_}
+use Prim.Native.Nat.{ℕ, _*_, _<_}
+
+-- above 1, and no product of two numbers above 1
+pub record Prime (p : ℕ) : Type 0 where
+  pub above-one : 1 < p
+  pub no-product : (a b : ℕ) → 1 < a → 1 < b → a * b ≡ p → ⊥
