@@ -2,7 +2,7 @@
 -- `by` is the road of every later proof: a congruence follows from one in hand by an equation of ℕ.
 use mathlib.Core.Path.{_≡_, refl, sym, _∙_, ap}
 use mathlib.Core.Logic.{_⊎_, inl, inr, ⊎-elim}
-use Prim.Native.Nat.{ℕ, zero, suc, _+_, _*_, _-_, _%_, _<_, _≤_}
+use Prim.Native.Nat.{ℕ, zero, suc, _+_, _*_, _-_, _%_, _<_}
 use native.Mathlib.Nat.{add-mod, mod-zero, zero-mod, eq-zero-or-pos, mod-mod, mod-eq-of-lt, add-mul-mod-self-left}
 use native.Mathlib.Omega.{arith}
 use Rattle.algebra.specs.Congruence.{_≈⟨_⟩_, negative}

@@ -1,16 +1,16 @@
 -- The field: modulo a prime every number but 0 has exactly one inverse; no zero divisors, cancellation,
 -- and exactly one word d with a + d z = v (the blinder of demand 3).
-use mathlib.Core.Path.{_≡_, sym, _∙_, ap}
+use mathlib.Core.Path.{_≡_, ap}
 use mathlib.Core.Logic.{_⊎_, inl, inr, ⊎-elim}
-use Prim.Native.Nat.{ℕ, zero, suc, _+_, _*_, _/_, _-_, _%_, _<_, _≤_}
-use native.Mathlib.Nat.{mod-lt, mod-le, mod-eq-of-lt, mod-add-div', eq-zero-or-pos, eq-or-lt-of-le, lt-of-mul-lt-mul-right, zero-mod}
+use Prim.Native.Nat.{ℕ, zero, suc, _+_, _*_, _/_, _%_, _<_, _≤_}
+use native.Mathlib.Nat.{mod-lt, mod-add-div', eq-zero-or-pos, eq-or-lt-of-le, lt-of-mul-lt-mul-right}
 use native.Mathlib.Omega.{arith}
 use Rattle.algebra.specs.Congruence.{_≈⟨_⟩_, negative, Inverse}
 use Rattle.algebra.specs.Prime.{Prime}
-use Rattle.algebra.proofs.Congruence.{≈-refl, ≈-eq, ≈-sym, ≈-trans, ≈-plus, ≈-times, ≈-product, ≈-whole, zero-or-not, remainder-positive, ≈-reduced, ≈-words, ≈-negative, by}
+use Rattle.algebra.proofs.Congruence.{≈-eq, ≈-sym, ≈-trans, ≈-plus, ≈-times, ≈-product, ≈-whole, zero-or-not, remainder-positive, ≈-reduced, ≈-words, ≈-negative, by}
 
 module _ {p : ℕ} (prime : Prime p) where
-  positive : 0 < p
+  pub positive : 0 < p
   positive = omega (arith, prime .above-one)
 
   -- a number between 1 and p does not divide p

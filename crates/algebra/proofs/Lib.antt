@@ -1,3 +1,13 @@
 pub mod Congruence
 pub mod PrimeTest
 pub mod Inverse
+pub mod Polynomial
+pub mod Weights
+pub mod Same
+pub mod Difference
+pub mod Roots
+pub mod Target
+pub mod Interpolation
+pub mod Division
+pub mod Products
+pub mod Blinding

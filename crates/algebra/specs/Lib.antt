@@ -1,2 +1,5 @@
 pub mod Congruence
 pub mod Prime
+pub mod Polynomial
+pub mod Points
+pub mod Blinding

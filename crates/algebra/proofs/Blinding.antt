@@ -1,0 +1,125 @@
+-- Blinding: A'B' − C' = Z H' has a solution exactly where A B − C is 0 at all points; it is the only one of its length,
+-- equals H + d1 B + d2 A + d1 d2 Z − d3, and with blinders 0 its last two words are 0.
+use mathlib.Core.Path.{_≡_, sym, _∙_, ap}
+use mathlib.Core.List.{List, [], _∷_}
+use Prim.Native.Nat.{ℕ, zero, suc, _+_, _*_, _-_, _<_, _≤_}
+use native.Mathlib.Omega.{arith}
+use lib.ListN.{length, getD, List·getD-eq-default}
+use Rattle.algebra.specs.Congruence.{_≈⟨_⟩_}
+use Rattle.algebra.specs.Prime.{Prime}
+use Rattle.algebra.specs.Polynomial.{value, sum, product, reduced, _≋⟨_⟩_}
+use Rattle.algebra.specs.Points.{Distinct, Vanishes, target}
+use Rattle.algebra.specs.Blinding.{Holds, Divides, PlainQuotient, BlindedQuotient, blinded, blindedSum}
+use Rattle.algebra.proofs.Congruence.{≈-sym, ≈-plus, ≈-times, ≈-negative, ≈-eq, ≈-words, by}
+use Rattle.algebra.proofs.Weights.{weigh, weights, by-weights, weigh-sum, weigh-multiple}
+use Rattle.algebra.proofs.Inverse.{positive}
+use Rattle.algebra.proofs.Polynomial.{length-sum, length-multiple, length-product, length-reduced, value-sum, value-multiple, value-product}
+use Rattle.algebra.proofs.Same.{≋-sym, ≋-trans, ≋-value, ≋-reduced, reduced-words, words-equal}
+use Rattle.algebra.proofs.Difference.{difference, length-difference, difference-value, difference-sum}
+use Rattle.algebra.proofs.Target.{length-target, target-zero}
+use Rattle.algebra.proofs.Division.{division, target-cancel}
+use Rattle.algebra.proofs.Products.{product-same, product-swap, product-sum-left, product-multiple-left, product-sum-right, product-multiple-right, product-constant}
+
+module _ {p : ℕ} (pos : 0 < p) (xs a b c : List ℕ) where
+  -- A B − C = Z H fixes H
+  divides-unique : (g h : List ℕ) → Divides p xs a b c g → Divides p xs a b c h → g ≋⟨ p ⟩ h
+  divides-unique g h s t = target-cancel pos xs g h (by-weights (λ φ.
+      let z = target p xs in
+      let both = ≋-trans (≋-sym (s .equal)) (t .equal) in
+      let whole = rw (weigh-sum, weigh-sum) at (weights (sum c (product z g)) (sum c (product z h)) both φ) in
+      by whole (omega arith)))
+
+  divides-same : (g h : List ℕ) → g ≋⟨ p ⟩ h → Divides p xs a b c g → Divides p xs a b c h
+  divides-same g h e s = record {
+    equal = by-weights (λ φ.
+        let z = target p xs in
+        rw weigh-sum
+        (by (≈-plus (rw weigh-sum at (weights (product a b) (sum c (product z g)) (s .equal) φ)) (weights (product z g) (product z h) (product-same z g h e) φ))
+        (omega arith)));
+  }
+
+module _ {p : ℕ} (pos : 0 < p) (xs a b c : List ℕ) (d1 d2 d3 : ℕ) where
+  -- the blinded quotient, from the plain one
+  blinded-divides : {h : List ℕ} → Divides p xs a b c h →
+      Divides p xs (blinded p xs a d1) (blinded p xs b d2) (blinded p xs c d3) (blindedSum p xs a b d1 d2 d3 h)
+  blinded-divides {h} e = record {
+    equal = by-weights (λ φ.
+        let z = target p xs in
+        let plain = rw weigh-sum at (weights (product a b) (sum c (product z h)) (e .equal) φ) in
+        simp (product-sum-left, product-sum-right, product-multiple-left, product-multiple-right, product-constant, weigh-sum, weigh-multiple)
+        (by (≈-plus plain (≈-sym (≈-negative pos (d3 * weigh z φ)))) (omega (arith, ap (λ (x : ℕ). d2 * x) (product-swap a z φ)))));
+  }
+
+  pub blinded-formula : {h k : List ℕ} → PlainQuotient p xs a b c h → BlindedQuotient p xs a b c d1 d2 d3 k →
+      k ≋⟨ p ⟩ blindedSum p xs a b d1 d2 d3 h
+  blinded-formula {h} {k} plain q =
+      divides-unique pos xs (blinded p xs a d1) (blinded p xs b d2) (blinded p xs c d3) k (blindedSum p xs a b d1 d2 d3 h)
+      (q .divides) (blinded-divides (plain .divides))
+
+  pub blinded-unique : {g h : List ℕ} → BlindedQuotient p xs a b c d1 d2 d3 g → BlindedQuotient p xs a b c d1 d2 d3 h → g ≡ h
+  blinded-unique {g} {h} s t =
+      words-equal (s .size ∙ sym (t .size)) (s .words) (t .words)
+      (divides-unique pos xs (blinded p xs a d1) (blinded p xs b d2) (blinded p xs c d3) g h (s .divides) (t .divides))
+
+  -- where there is a quotient, A B − C is 0 at all points
+  pub blinded-holds : {h : List ℕ} → Divides p xs (blinded p xs a d1) (blinded p xs b d2) (blinded p xs c d3) h → Holds p xs a b c
+  blinded-holds {h} e = record {
+    at-each = λ i l.
+        let x = getD xs i 0 in
+        let z = value (target p xs) x in
+        let zero : z ≈⟨ p ⟩ 0 = target-zero pos xs .zero-at i l in
+        let extra = d1 * value b x + d2 * value a x + d1 * d2 * z in
+        let whole = simp (value-product, value-sum, value-multiple) at (≋-value (e .equal) x) in
+        by (≈-plus (≈-plus whole (≈-times (d3 + value h x) zero)) (≈-sym (≈-times extra zero))) (omega arith);
+  }
+
+unblinded : (p : ℕ) (xs a b h : List ℕ) → blindedSum p xs a b 0 0 0 h ≋⟨ p ⟩ h
+unfolding weigh
+unblinded p xs a b h = by-weights (λ φ. ≈-eq p (simp (weigh-sum, weigh-multiple) (omega arith)))
+
+length-square : (a b : List ℕ) → length a ≡ length b → length (product a b) ≡ length a + length b - 1
+unfolding product
+length-square [] b e = omega arith
+length-square (x ∷ a) b e = omega (arith, length-product (x ∷ a) b (omega arith) (omega arith))
+
+module _ {p : ℕ} (prime : Prime p) (xs a b c : List ℕ) (distinct : Distinct p xs)
+    (size-a : length a ≡ length xs) (size-b : length b ≡ length xs) (size-c : length c ≡ length xs) where
+  pub plain-exists : Holds p xs a b c → (h : List ℕ) × PlainQuotient p xs a b c h
+  plain-exists holds =
+      let f = difference p (product a b) c in
+      let zero : Vanishes p f xs = record {
+        zero-at = λ i l. difference-value pos (product a b) c (getD xs i 0) (rw value-product (holds .at-each i l));
+      } in
+      let (h, q) = division prime xs f distinct zero in (
+        h,
+        record {
+          size = omega (arith, q .size, length-difference p (product a b) c, length-square a b (size-a ∙ sym size-b));
+          words = q .words;
+          divides = record { equal = difference-sum pos (product a b) c (q .exact) };
+        },
+      )
+    where
+      pos : 0 < p
+      pos = positive prime
+
+  pub blinded-exists : (d1 d2 d3 : ℕ) → Holds p xs a b c → (h : List ℕ) × BlindedQuotient p xs a b c d1 d2 d3 h
+  blinded-exists d1 d2 d3 holds =
+      let (h, plain) = plain-exists holds in
+      let s = blindedSum p xs a b d1 d2 d3 h in (
+        reduced p s,
+        record {
+          size = simp (length-reduced, length-sum, length-multiple, length-target, plain .size, size-a, size-b) (omega arith);
+          words = reduced-words (positive prime) s;
+          divides = divides-same (positive prime) xs (blinded p xs a d1) (blinded p xs b d2) (blinded p xs c d3) s (reduced p s)
+              (≋-sym (≋-reduced p s)) (blinded-divides (positive prime) xs a b c d1 d2 d3 (plain .divides));
+        },
+      )
+
+  -- with blinders 0 the last two words are 0
+  pub last-two-zero : {h : List ℕ} → BlindedQuotient p xs a b c 0 0 0 h → (k : ℕ) → length xs ≤ suc k → k ≤ length xs → getD h k 0 ≡ 0
+  last-two-zero {h} q k from to =
+      let pos = positive prime in
+      let (plain, r) = plain-exists (blinded-holds pos xs a b c 0 0 0 (q .divides)) in
+      let same : h ≋⟨ p ⟩ plain = ≋-trans (blinded-formula pos xs a b c 0 0 0 r q) (unblinded p xs a b plain) in
+      let none : getD plain k 0 ≡ 0 = List·getD-eq-default plain 0 (omega (arith, r .size)) in
+      ≈-words (rw none at (same .coefficient k)) (q .words .below k (omega (arith, q .size))) pos
