@@ -1,9 +1,9 @@
 // The field of p = 2013265921 elements: words, their sums and products.
 // Every operation takes any three words, also words that are not below p, and gives a word below p.
 ghost use mathlib.Core.Path.{_≡_};
-ghost use Prim.Native.Nat.{_+_, _*_, _%_};
-ghost use Rattle.algebra.specs.Congruence.{negative};
-ghost use Rattle.field.specs.Field.{p};
+ghost use Prim.Native.Nat.{_+_, _*_, _%_, _<_};
+ghost use Rattle.algebra.specs.Congruence.{negative, Inverse};
+ghost use Rattle.field.specs.Field.{p, InverseOrZero};
 
 pub const P: u32 = 2013265921;
 
@@ -33,4 +33,30 @@ pub fn times(a: u32, b: u32) -> u32
     ensures { λ r. ⌜ r ≡ (a * b) % p ⌝ }
 {
     add_scaled(0, a, b)
+}
+
+// The inverse of a, or 0 where a is a multiple of p.
+pub fn inverse(a: u32) -> u32
+    ensures { λ r. ⌜ InverseOrZero a r ⌝ }
+{
+    let word = a % P;
+    if word == 0 {
+        return 0;
+    }
+    word_inverse(word)
+}
+
+// a times factor leaves rest modulo p, all along. With p = q rest + r, p − q times the factor leaves r.
+// The remainders fall to 1 in at most 46 turns, 18 on average: counted over every word, not proved.
+fn word_inverse(a: u32) -> u32
+    requires { ⌜ (0 < a) × (a < p) ⌝ }
+    ensures { λ r. ⌜ Inverse p a r ⌝ }
+{
+    let mut rest = a;
+    let mut factor = 1;
+    while 1 < rest {
+        factor = times(factor, P - P / rest);
+        rest = P % rest;
+    }
+    factor
 }
