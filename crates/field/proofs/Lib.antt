@@ -1,1 +1,2 @@
 pub mod PrimeField
+pub mod Every

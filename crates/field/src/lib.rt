@@ -5,6 +5,8 @@ ghost use Prim.Native.Nat.{_+_, _*_, _%_, _<_};
 ghost use Rattle.algebra.specs.Congruence.{negative, Inverse};
 ghost use Rattle.field.specs.Field.{p, InverseOrZero};
 
+pub mod table;
+
 pub const P: u32 = 2013265921;
 
 // Minus one: nothing is subtracted.

@@ -1,6 +1,5 @@
 -- a and its remainder have the same inverse, and a is 0 modulo p exactly where the remainder is 0.
 use mathlib.Core.Path.{refl}
-use native.Mathlib.Omega.{arith}
 use borrow.Author.Needs.{needs}
 use Rattle.algebra.proofs.Congruence.{≈-sym, ≈-trans, ≈-product, ≈-refl, ≈-reduced}
 use Rattle.field.specs.Field.{p}

@@ -1,6 +1,6 @@
 -- Invariant: a times factor leaves rest modulo p, and rest is a word other than 0. So where rest is 1, factor is the inverse.
 -- Rest falls, and never to 0: p is prime, so no number between 1 and p divides it.
-use mathlib.Core.Path.{_≡_, sym, ap}
+use mathlib.Core.Path.{_≡_, ap}
 use Prim.Native.Nat.{ℕ, _+_, _*_, _-_, _/_, _%_, _<_}
 use native.Mathlib.Nat.{mod-lt, mod-add-div', div-le-self}
 use native.Mathlib.Omega.{arith}
@@ -50,8 +50,7 @@ loop-again c =
       positive = leaves p-prime (now .rest) (search needs) (search needs);
       below = omega (arith, loop-less c);
       word = search needs;
-      leaves-rest =
-          rw (c .times .ensures) (turn _ (now .factor) (now .inv .leaves-rest));
+      leaves-rest = rw (c .times .ensures) (turn _ (now .factor) (now .inv .leaves-rest));
     }
 
 returns : tie.Need-returns Inv-loop μ-loop
