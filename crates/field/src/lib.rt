@@ -1,5 +1,5 @@
-// The field of p = 2013265921 elements: words, their sums and products.
-// Every operation takes any three words, also words that are not below p, and gives a word below p.
+// Arithmetic in the field of p = 2013265921 elements (document 01, "The field").
+// Every operation takes any u32 words, also those that are not below p, and gives a word below p.
 ghost use mathlib.Core.Path.{_≡_};
 ghost use Prim.Native.Nat.{_+_, _*_, _%_, _<_};
 ghost use Rattle.algebra.specs.Congruence.{negative, Inverse};
@@ -9,10 +9,10 @@ pub mod table;
 
 pub const P: u32 = 2013265921;
 
-// Minus one: nothing is subtracted.
-const MINUS_ONE: u32 = P - 1;
+// A difference is a sum with this multiple.
+pub const MINUS_ONE: u32 = P - 1;
 
-// The one operation: the others are written with it. The sum is made in 64 bits, where it never wraps.
+// The one operation that the others are written with. The sum is made in 64 bits, where it never wraps.
 pub fn add_scaled(d: u32, k: u32, s: u32) -> u32
     ensures { λ r. ⌜ r ≡ (d + k * s) % p ⌝ }
 {
