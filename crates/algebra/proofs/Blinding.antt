@@ -26,7 +26,7 @@ module _ {p : ℕ} (pos : 0 < p) (xs a b c : List ℕ) where
   divides-unique g h s t = target-cancel pos xs g h (by-weights (λ φ.
       let z = target p xs in
       let both = ≋-trans (≋-sym (s .equal)) (t .equal) in
-      let whole = rw (weigh-sum, weigh-sum) at (weights (sum c (product z g)) (sum c (product z h)) both φ) in
+      let whole = simp weigh-sum at (weights (sum c (product z g)) (sum c (product z h)) both φ) in
       by whole (omega arith)))
 
   divides-same : (g h : List ℕ) → g ≋⟨ p ⟩ h → Divides p xs a b c g → Divides p xs a b c h
