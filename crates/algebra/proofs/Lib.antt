@@ -11,3 +11,5 @@ pub mod Interpolation
 pub mod Division
 pub mod Products
 pub mod Blinding
+pub mod Combination
+pub mod Lagrange
