@@ -13,3 +13,4 @@ pub mod Products
 pub mod Blinding
 pub mod Combination
 pub mod Lagrange
+pub mod Consecutive
