@@ -20,6 +20,16 @@ unfolding total
 total-split g n zero = rw (add-zero n) (omega arith)
 total-split g n (suc k) = rw (add-suc n k) (omega (arith, total-split g n k))
 
+pub total-first : (g : ℕ → ℕ) (n : ℕ) → total g (suc n) ≡ g 0 + total (λ t. g (suc t)) n
+unfolding total
+total-first g zero = omega arith
+total-first g (suc n) = omega (arith, total-first g n)
+
+pub total-times : (k : ℕ) (g : ℕ → ℕ) (n : ℕ) → total (λ t. k * g t) n ≡ k * total g n
+unfolding total
+total-times k g zero = omega arith
+total-times k g (suc n) = omega (arith, total-times k g n)
+
 pub total-≈ : {p : ℕ} {g h : ℕ → ℕ} (n : ℕ) → ((t : ℕ) → t < n → g t ≈⟨ p ⟩ h t) → total g n ≈⟨ p ⟩ total h n
 unfolding total
 total-≈ {p} zero e = ≈-refl p 0

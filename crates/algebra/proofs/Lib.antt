@@ -14,3 +14,4 @@ pub mod Blinding
 pub mod Combination
 pub mod Lagrange
 pub mod Consecutive
+pub mod ConsecutiveBasis

@@ -4,3 +4,4 @@ pub mod Polynomial
 pub mod Points
 pub mod Blinding
 pub mod Combination
+pub mod Basis
