@@ -22,24 +22,24 @@ unfoldable pub descent : ℕ → ℕ → ℕ
 descent p zero = 1
 descent p (suc n) = descent p n * negative p (suc n)
 
-value-none : (p s : ℕ) → value (target p []) s ≡ 1
+pub value-none : (p s : ℕ) → value (target p []) s ≡ 1
 unfolding target value
 value-none p s = omega arith
 
 -- the target of two runs of points
-target-append : (p : ℕ) (xs ys : List ℕ) (s : ℕ) → value (target p (xs ++ ys)) s ≈⟨ p ⟩ value (target p xs) s * value (target p ys) s
+pub target-append : (p : ℕ) (xs ys : List ℕ) (s : ℕ) → value (target p (xs ++ ys)) s ≈⟨ p ⟩ value (target p xs) s * value (target p ys) s
 target-append p [] ys s = ≈-eq p (rw (value-none p s) (omega arith))
 target-append p (x ∷ xs) ys s =
     let k = negative p x + s in
     ≈-trans (target-value p x (xs ++ ys) s)
     (by (≈-plus (≈-times k (target-append p xs ys s)) (≈-times (value (target p ys) s) (≈-sym (target-value p x xs s)))) (omega arith))
 
-consecutive-last : (x m : ℕ) → consecutive x (suc m) ≡ consecutive x m ++ ((x + m) ∷ [])
+pub consecutive-last : (x m : ℕ) → consecutive x (suc m) ≡ consecutive x m ++ ((x + m) ∷ [])
 unfolding consecutive
 consecutive-last x zero = rw (add-zero x)
 consecutive-last x (suc m) = ap (λ (l : List ℕ). x ∷ l) (consecutive-last (suc x) m ∙ rw (add-suc x m, suc-add x m))
 
-without-consecutive : (x m i : ℕ) → i < m → without i (consecutive x m) ≡ consecutive x i ++ consecutive (suc (x + i)) (m - suc i)
+pub without-consecutive : (x m i : ℕ) → i < m → without i (consecutive x m) ≡ consecutive x i ++ consecutive (suc (x + i)) (m - suc i)
 unfolding consecutive without
 without-consecutive x zero i l = absurd (omega arith)
 without-consecutive x (suc m) zero l =

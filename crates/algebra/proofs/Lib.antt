@@ -15,3 +15,4 @@ pub mod Combination
 pub mod Lagrange
 pub mod Consecutive
 pub mod ConsecutiveBasis
+pub mod Without

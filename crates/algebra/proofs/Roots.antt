@@ -50,7 +50,7 @@ distinct-rest d = record { apart = λ i j h k. d .apart (suc i) (suc j) (omega a
 
 module _ {p : ℕ} (prime : Prime p) where
   -- where f is 0 at x and at y, the quotient by X − x is 0 at y
-  divided-zero : {x y : ℕ} (f : List ℕ) → (x ≈⟨ p ⟩ y → ⊥) → value f x ≈⟨ p ⟩ 0 → value f y ≈⟨ p ⟩ 0 → value (divided x f) y ≈⟨ p ⟩ 0
+  pub divided-zero : {x y : ℕ} (f : List ℕ) → (x ≈⟨ p ⟩ y → ⊥) → value f x ≈⟨ p ⟩ 0 → value f y ≈⟨ p ⟩ 0 → value (divided x f) y ≈⟨ p ⟩ 0
   divided-zero {x} {y} f apart fx fy =
       let q = value (divided x f) y in
       let same : x * q ≈⟨ p ⟩ y * q = by (≈-plus fx (≈-sym fy)) (omega (arith, divided-value x f y)) in
