@@ -1,0 +1,56 @@
+// What a value at a point s costs when no polynomial is made (document 01, "Query and checks"), at the points 1..m, m at most 256:
+// the basis weights, the basis values with the target's value, and the sum of given values times basis values.
+ghost use mathlib.Core.Path.{_≡_};
+ghost use Prim.Native.Nat.{_*_, _%_, _≤_, _<_};
+ghost use lib.ListN.{length, getD};
+ghost use Rattle.algebra.specs.Congruence.{Inverse};
+ghost use Rattle.algebra.specs.Points.{consecutive};
+ghost use Rattle.algebra.specs.Basis.{BasisWeights};
+ghost use Rattle.algebra.specs.Combination.{total};
+ghost use Rattle.algebra.proofs.ConsecutiveBasis.{descent};
+ghost use Rattle.field.specs.Field.{p, InverseTable};
+
+// The inverse of −1 · −2 · .. · −after: the weight of the first point, with as many points after it.
+fn first_weight(after: usize, inverses: &[u32; 256]) -> u32
+    requires { ⌜ (after ≤ 256) × InverseTable (now inverses) ⌝ }
+    ensures { λ r. ⌜ Inverse p (descent p after) r ⌝ }
+{
+    let mut weight = 1;
+    let mut k = 0;
+    while k < after {
+        weight = field::times(weight, field::P - inverses[k]);
+        k += 1;
+    }
+    weight
+}
+
+// The basis weights of the points 1..m, into m words. From a point to the next one the differences gain one point before,
+// i + 1 away, and lose the last one after. Behind the last point the factor is P, and the word that it makes is not used.
+pub fn weights(out: &mut [u32], inverses: &[u32; 256])
+    requires { ⌜ (0 < length (now out)) × (length (now out) ≤ 256) × InverseTable (now inverses) ⌝ }
+    ensures { λ _. ⌜ BasisWeights p (consecutive 1 (length (now (out .entry)))) (now (out .exit)) ⌝ }
+{
+    let last = out.len() - 1;
+    let mut weight = first_weight(last, inverses);
+    let mut i = 0;
+    while i < out.len() {
+        out[i] = weight;
+        let next = field::times(weight, inverses[i]);
+        weight = field::times(next, field::P - ((last - i) as u32));
+        i += 1;
+    }
+}
+
+// The sum of the words of y times those of b, word by word.
+pub fn dot(y: &[u32], b: &[u32]) -> u32
+    requires { ⌜ length (now y) ≡ length (now b) ⌝ }
+    ensures { λ r. ⌜ r ≡ total (λ i. getD (now (y .entry)) i 0 * getD (now (b .entry)) i 0) (length (now (y .entry))) % p ⌝ }
+{
+    let mut sum = 0;
+    let mut i = 0;
+    while i < y.len() {
+        sum = field::add_scaled(sum, y[i], b[i]);
+        i += 1;
+    }
+    sum
+}
