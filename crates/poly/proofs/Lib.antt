@@ -1,2 +1,7 @@
 pub mod Slices
-pub mod AddScaled
+pub mod Words
+pub mod ScaledLaws
+pub mod FactorLaws
+pub mod PointLaws
+pub mod ProductLaws
+pub mod InterpolationLaws

@@ -1,7 +1,7 @@
 -- What loops over a slice share. A loop up keeps the words done in front, `take i l ++ ..`; a loop down keeps them behind, and has
 -- the words `take i l` still to do in front of them. And two words made of congruent parts are equal.
-use mathlib.Core.Path.{_≡_, refl, sym, _∙_, ap}
-use mathlib.Core.List.{List, [], _∷_, _++_, append-assoc, append-nil}
+use mathlib.Core.Path.{_≡_, sym, _∙_, ap}
+use mathlib.Core.List.{List, _∷_, _++_, append-assoc, append-nil}
 use Prim.Native.Nat.{ℕ, suc, _+_, _*_, _-_, _%_, _<_, _≤_}
 use native.Mathlib.Nat.{zero-add}
 use native.Mathlib.Numerals.{add-one}
@@ -38,8 +38,12 @@ module _ (l : List ℕ) (i v : ℕ) (h : i < length l) where
 pub lent-back : (f : List ℕ → List ℕ) (l : List ℕ) (i : ℕ) {back : List ℕ} → back ≡ f (take (length l - i) (drop i l)) →
     putMid i (length l - i) l back ≡ take i l ++ f (drop i l)
 lent-back f l i e =
-    rw (drop-of-length-le (drop i l) {i = length l - i} (omega (arith, length-drop i l)), append-nil, e,
-    take-all (length l - i) (drop i l) (omega (arith, length-drop i l)))
+    rw (
+      drop-of-length-le (drop i l) {i = length l - i} (omega (arith, length-drop i l)),
+      append-nil,
+      e,
+      take-all (length l - i) (drop i l) (omega (arith, length-drop i l)),
+    )
 
 -- loop up: the part from i on was lent, and its first word is done
 module _ (l back : List ℕ) (i : ℕ) (h : i ≤ length l) where

@@ -1,25 +1,21 @@
 -- Invariant: the words from i on are done, the words before i are the given ones, and the running word is the value at x of
 -- the words of z after word i.
-use mathlib.Core.Path.{_≡_, refl, sym, _∙_, ap}
+use mathlib.Core.Path.{_≡_, refl, sym, ap}
 use mathlib.Core.List.{List, [], _∷_, _++_, append-nil}
 use Prim.Native.Nat.{ℕ, zero, suc, _+_, _*_, _-_, _≤_, _<_, _%_}
-use native.Mathlib.Numerals.{add-one}
 use native.Mathlib.Omega.{arith}
 use borrow.Author.Needs.{needs}
-use lib.ListN.{length, take, drop, set, getD, length-set, take-append-drop, drop-of-length-le}
+use lib.ListN.{length, take, drop, getD, length-set, drop-of-length-le}
 use lib.Seq.{drop-cons, drop-length, take-length}
 use Rattle.algebra.specs.Polynomial.{value}
 use Rattle.algebra.proofs.Roots.{divided}
 use Rattle.algebra.proofs.Congruence.{≈-refl, ≈-reduced}
 use Rattle.field.specs.Field.{p}
 use Rattle.poly.specs.AddScaled.{scaled}
-use Rattle.poly.proofs.AddScaled.{scaled-nil}
+use Rattle.poly.proofs.ScaledLaws.{scaled-nil}
 use Rattle.poly.proofs.Slices.{same-word, running, back-get, back-set}
 use Rattle.poly.proofs.add_divided.Statement.{statement}
 use Rattle.poly.proofs.add_divided.Tie as tie
-use Rattle.poly.proofs.add_divided.Reads as reads
-use Rattle.poly.proofs.add_divided.Lts as lts
-use Rattle.field.proofs.add_scaled.Reads as add-scaled-reads
 
 abbrev Inv-loop : tie.InvT-loop
 Inv-loop column₀ k z x word₀ i₀ column word i =
@@ -49,8 +45,7 @@ loop-holds : tie.Need-loop-holds Inv-loop μ-loop
 unfolding value
 loop-holds c =
     let args = c .before .before .args in
-    let column = args .column .now in
-    (
+    let column = args .column .now in (
       search needs,
       search needs,
       rw (drop-of-length-le (args .z .now) {i = suc (length column)} (omega arith)),
@@ -71,8 +66,7 @@ loop-again c =
     let word : c .before .before .add-scaled .result ≡ value (drop (suc j) z) (args .x) % p =
     rw i-is at (running p z (args .x) (now .i) (omega arith) (now .inv .2) (c .before .before .add-scaled .ensures)) in
     let written : c .add-scaled2 .result ≡ (getD column j 0 + args .k * c .before .before .add-scaled .result) % p =
-    rw (so-far, back-get column j here done) at (c .add-scaled2 .ensures) in
-    (
+    rw (so-far, back-get column j here done) at (c .add-scaled2 .ensures) in (
       search needs,
       simp length-set (search needs),
       word,

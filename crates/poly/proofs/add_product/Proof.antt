@@ -1,22 +1,19 @@
 -- Invariant: the words before i are done, and the product of f's words from i on is still to be added into the words from i on.
-use mathlib.Core.Path.{_≡_, refl, sym, _∙_, ap}
-use mathlib.Core.List.{List, [], _∷_, _++_, append-assoc}
-use Prim.Native.Nat.{ℕ, suc, _+_, _*_, _-_, _≤_, _<_, _%_}
+use mathlib.Core.Path.{_≡_, sym, _∙_}
+use mathlib.Core.List.{List, _++_, append-assoc}
+use Prim.Native.Nat.{ℕ, _+_, _-_, _≤_, _<_}
 use native.Mathlib.Numerals.{add-one}
 use native.Mathlib.Omega.{arith}
 use borrow.Author.Needs.{needs}
-use lib.ListN.{length, take, drop, set, getD, length-append, length-take, length-drop, take-append-drop, drop-of-length-le}
+use lib.ListN.{length, take, drop, getD, length-append, length-take, length-drop, take-append-drop, drop-of-length-le}
 use lib.Seq.{drop-cons}
 use Rattle.field.specs.Field.{p}
 use Rattle.poly.specs.AddScaled.{scaled}
 use Rattle.poly.specs.Product.{addProduct}
-use Rattle.poly.proofs.AddScaled.{length-scaled}
+use Rattle.poly.proofs.ScaledLaws.{length-scaled}
 use Rattle.poly.proofs.Slices.{lent-back, front-take, front-drop}
 use Rattle.poly.proofs.add_product.Statement.{statement}
 use Rattle.poly.proofs.add_product.Tie as tie
-use Rattle.poly.proofs.add_product.Reads as reads
-use Rattle.poly.proofs.add_product.Lts as lts
-use Rattle.poly.proofs.add_scaled.Reads as add-scaled-reads
 
 abbrev Inv-loop : tie.InvT-loop
 Inv-loop room₀ f g i₀ room i =
@@ -43,8 +40,7 @@ loop-again c =
     let f = args .f .now in
     let g = args .g .now in
     let word = getD f (now .i) 0 in
-    let back = lent-back (λ (part : List ℕ). scaled p word g part) (now .room) (now .i) (c .before .before .add-scaled .ensures) in
-    (
+    let back = lent-back (λ (part : List ℕ). scaled p word g part) (now .room) (now .i) (c .before .before .add-scaled .ensures) in (
       search needs,
       rw (back, length-append, length-scaled, length-drop, length-take) (omega arith),
       step f g (now .room) (now .i) (omega arith) (omega arith) back ∙ now .inv .2,

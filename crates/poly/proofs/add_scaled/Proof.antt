@@ -12,9 +12,6 @@ use Rattle.poly.specs.AddScaled.{scaled}
 use Rattle.poly.proofs.Slices.{front-word, rest-kept}
 use Rattle.poly.proofs.add_scaled.Statement.{statement}
 use Rattle.poly.proofs.add_scaled.Tie as tie
-use Rattle.poly.proofs.add_scaled.Reads as reads
-use Rattle.poly.proofs.add_scaled.Lts as lts
-use Rattle.field.proofs.add_scaled.Reads as add-scaled-reads
 
 abbrev Inv-loop : tie.InvT-loop
 Inv-loop dst₀ k src i₀ dst i =

@@ -1,24 +1,20 @@
 -- Invariant: the words from i on are divided, and the words before i are the given ones.
-use mathlib.Core.Path.{_≡_, refl, sym, _∙_, ap}
-use mathlib.Core.List.{List, [], _∷_, _++_}
-use Prim.Native.Nat.{ℕ, suc, _+_, _*_, _-_, _≤_, _<_, _%_}
+use mathlib.Core.Path.{_≡_, sym, _∙_, ap}
+use mathlib.Core.List.{List, _∷_, _++_}
+use Prim.Native.Nat.{ℕ, suc, _+_, _-_, _≤_, _<_}
 use native.Mathlib.Nat.{sub-zero}
 use native.Mathlib.Omega.{arith}
 use borrow.Author.Needs.{needs}
-use lib.ListN.{length, take, drop, set, getD, length-append, length-take, length-drop, take-append-drop, drop-of-length-le}
+use lib.ListN.{length, take, drop, getD, length-append, length-take, length-drop, take-append-drop}
 use lib.Seq.{drop-cons}
 use Rattle.algebra.specs.Congruence.{_≈⟨_⟩_, negative}
 use Rattle.field.specs.Field.{p}
 use Rattle.poly.specs.AddScaled.{scaled}
 use Rattle.poly.specs.Division.{divideOnce, division}
-use Rattle.poly.proofs.AddScaled.{length-scaled, scaled-same}
+use Rattle.poly.proofs.ScaledLaws.{length-scaled, scaled-same}
 use Rattle.poly.proofs.Slices.{minus-same, lent-back, back-part, back-later}
 use Rattle.poly.proofs.divide.Statement.{statement}
 use Rattle.poly.proofs.divide.Tie as tie
-use Rattle.poly.proofs.divide.Reads as reads
-use Rattle.poly.proofs.divide.Lts as lts
-use Rattle.field.proofs.minus.Reads as minus-reads
-use Rattle.poly.proofs.add_scaled.Reads as add-scaled-reads
 
 abbrev Inv-loop : tie.InvT-loop
 Inv-loop room₀ low i₀ room i =
@@ -58,12 +54,11 @@ loop-again c =
     let so-far : now .room ≡ take (suc j) room ++ done = rw i-is at (now .inv .2) in
     let same : k ≈⟨ p ⟩ negative p (getD (getD room j 0 ∷ done) (length low) 0) =
     minus-same _ (rw (so-far, back-later room j here done (length low)) at (c .before .before .before .before .minus .ensures)) in
-    let back = lent-back (λ (part : List ℕ). scaled p k low part) (now .room) j (c .before .before .add-scaled .ensures) in
-    (
+    let back = lent-back (λ (part : List ℕ). scaled p k low part) (now .room) j (c .before .before .add-scaled .ensures) in (
       omega arith,
       rw (back, length-append, length-scaled, length-drop, length-take) (omega arith),
       back ∙ rw (so-far, back-part room j here done (λ (part : List ℕ). scaled p k low part), scaled-same same, left)
-      (ap (λ (r : List ℕ). take j room ++ r) (step low room (n - suc j) j here)),
+          (ap (λ (r : List ℕ). take j room ++ r) (step low room (n - suc j) j here)),
     )
 
 returns : tie.Need-returns Inv-loop μ-loop

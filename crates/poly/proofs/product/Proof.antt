@@ -1,21 +1,20 @@
+-- The room begins as zeros, so what the loop adds is all that it holds.
+use mathlib.Core.Path.{_∙_}
+use native.Mathlib.Omega.{arith}
 use borrow.Author.Needs.{needs}
+use Rattle.field.specs.Field.{p}
+use Rattle.poly.specs.Product.{zeros}
+use Rattle.poly.proofs.ProductLaws.{product-in-zeros}
 use Rattle.poly.proofs.product.Statement.{statement}
 use Rattle.poly.proofs.product.Tie as tie
-use Rattle.poly.proofs.product.Reads as reads
-use Rattle.poly.proofs.product.Lts as lts
-use Rattle.poly.proofs.add_product.Reads as add-product-reads
 
--- src/lib.rt:96:17
-slice-aggregate-add-product : tie.Need-slice-aggregate-add-product
-slice-aggregate-add-product c = search needs
-
--- src/lib.rt:96:5
-add-product-requires : tie.Need-add-product-requires
-add-product-requires c κs = search needs
-
--- src/lib.rt:91:1
 returns : tie.Need-returns
-returns c = search needs
+unfolding zeros
+returns c =
+    let args = c .before .before .before .before .before .args in
+    c .before .add-product .ensures ∙
+    product-in-zeros {p = p} (omega arith) (args .f .now) (args .g .now) 513 (omega arith) (omega arith)
 
 pub product-spec : {M : Type 1} → statement M
-product-spec = tie.close (tie.spec slice-aggregate-add-product add-product-requires returns)
+product-spec = tie.close
+    (tie.spec (λ c. search needs) (λ c κs. search needs) returns)

@@ -8,16 +8,12 @@ use borrow.Author.Needs.{needs}
 use lib.ListN.{length, take, drop, set, getD, length-set, length-drop, take-append-drop}
 use lib.Seq.{drop-cons}
 use Rattle.algebra.specs.Congruence.{_≈⟨_⟩_, negative}
-use Rattle.algebra.proofs.Congruence.{≈-refl, ≈-reduced}
+use Rattle.algebra.proofs.Congruence.{≈-refl}
 use Rattle.field.specs.Field.{p}
 use Rattle.poly.specs.Factor.{timesFactor}
 use Rattle.poly.proofs.Slices.{same-word, minus-same, front-word, rest-kept}
 use Rattle.poly.proofs.times_factor.Statement.{statement}
 use Rattle.poly.proofs.times_factor.Tie as tie
-use Rattle.poly.proofs.times_factor.Reads as reads
-use Rattle.poly.proofs.times_factor.Lts as lts
-use Rattle.field.proofs.add_scaled.Reads as add-scaled-reads
-use Rattle.field.proofs.minus.Reads as minus-reads
 
 abbrev Inv-loop : tie.InvT-loop
 Inv-loop f₀ x k i₀ f i =
@@ -46,8 +42,7 @@ loop-again : tie.Need-loop-again Inv-loop μ-loop
 loop-again c =
     let now = c .before .before .before .before .loop in
     let x = c .before .before .before .before .before .before .before .args .x in
-    let minus = c .before .before .before .before .before .minus .ensures in
-    (
+    let minus = c .before .before .before .before .before .minus .ensures in (
       simp length-set (omega arith),
       simp length-set (search needs),
       step x (now .i) (now .f) (omega arith) (minus-same x minus) (c .add-scaled .ensures) ∙ now .inv .2,

@@ -1,21 +1,15 @@
 -- Invariant: the running word is the value at s of the words from i on.
 use mathlib.Core.Path.{_≡_}
-use mathlib.Core.List.{List}
-use Prim.Native.Nat.{ℕ, zero, suc, _+_, _*_, _-_, _≤_, _<_, _%_}
-use native.Mathlib.Numerals.{add-one}
+use Prim.Native.Nat.{suc, _-_, _≤_, _%_}
 use native.Mathlib.Omega.{arith}
 use borrow.Author.Needs.{needs}
-use lib.ListN.{length, drop, getD}
-use lib.Seq.{drop-cons, drop-length}
+use lib.ListN.{length, drop}
+use lib.Seq.{drop-length}
 use Rattle.algebra.specs.Polynomial.{value}
-use Rattle.algebra.proofs.Congruence.{≈-refl, ≈-reduced}
 use Rattle.field.specs.Field.{p}
 use Rattle.poly.proofs.Slices.{running}
 use Rattle.poly.proofs.value_at.Statement.{statement}
 use Rattle.poly.proofs.value_at.Tie as tie
-use Rattle.poly.proofs.value_at.Reads as reads
-use Rattle.poly.proofs.value_at.Lts as lts
-use Rattle.field.proofs.add_scaled.Reads as add-scaled-reads
 
 abbrev Inv-loop : tie.InvT-loop
 Inv-loop f s sum₀ i₀ sum i = (i ≤ length f) × (sum ≡ value (drop i f) s % p)

@@ -1,84 +1,67 @@
+-- Invariant: the words from i on are in powers, and the words before i are the given ones.
+use mathlib.Core.Path.{_≡_, sym, _∙_, ap}
+use mathlib.Core.List.{List, _∷_, _++_}
+use Prim.Native.Nat.{ℕ, suc, _+_, _-_, _≤_, _<_}
+use native.Mathlib.Nat.{add-zero, sub-zero}
+use native.Mathlib.Omega.{arith}
 use borrow.Author.Needs.{needs}
+use lib.ListN.{length, take, drop, getD, length-append, length-take, length-drop, take-append-drop}
+use lib.Seq.{drop-cons}
+use Rattle.field.specs.Field.{p}
+use Rattle.poly.specs.Factor.{timesFactor}
+use Rattle.poly.specs.Points.{consecutive}
+use Rattle.poly.specs.Interpolation.{powers}
+use Rattle.poly.proofs.Slices.{lent-back, back-part}
+use Rattle.poly.proofs.FactorLaws.{length-factor}
 use Rattle.poly.proofs.interpolation.expand_powers.Statement.{statement}
 use Rattle.poly.proofs.interpolation.expand_powers.Tie as tie
-use Rattle.poly.proofs.interpolation.expand_powers.Reads as reads
-use Rattle.poly.proofs.interpolation.expand_powers.Lts as lts
-use Rattle.poly.proofs.times_factor.Reads as times-factor-reads
 
 abbrev Inv-loop : tie.InvT-loop
-Inv-loop v₀ first i₀ v i = ?
+Inv-loop v₀ first i₀ v i =
+    (i ≤ length v₀) × (length v ≡ length v₀) × (v ≡ take i v₀ ++ powers p (consecutive (first + i) (length v₀ - i)) (drop i v₀))
 
 abbrev μ-loop : tie.MeasureT-loop
-μ-loop v₀ first i₀ v i = ?
+μ-loop v₀ first i₀ v i = i
 
--- src/interpolation.rt:43:5
+step : (v : List ℕ) (x m j : ℕ) → j < length v →
+    timesFactor p x (getD v j 0 ∷ powers p (consecutive (suc x) m) (drop (suc j) v)) ≡ powers p (consecutive x (suc m)) (drop j v)
+unfolding powers consecutive
+step v x m j h = rw (drop-cons v j 0)
+
 loop-holds : tie.Need-loop-holds Inv-loop μ-loop
-loop-holds c = search needs
+unfolding powers consecutive
+loop-holds c =
+    let v = c .before .args .v .now in
+    let none : length v - length v ≡ 0 = omega arith in
+    (search needs, search needs, rw none (sym (take-append-drop (length v) v)))
 
--- src/interpolation.rt:44:9
-sub-i : tie.Need-sub-i Inv-loop μ-loop
-sub-i c = search needs
-
--- src/interpolation.rt:45:29
-mul-times-factor : tie.Need-mul-times-factor Inv-loop μ-loop
-mul-times-factor c = search needs
-
--- src/interpolation.rt:45:29
-sub-times-factor : tie.Need-sub-times-factor Inv-loop μ-loop
-sub-times-factor c = search needs
-
--- src/interpolation.rt:45:29
-part-times-factor-start : tie.Need-part-times-factor-start Inv-loop μ-loop
-part-times-factor-start c = search needs
-
--- src/interpolation.rt:45:29
-part-times-factor-end : tie.Need-part-times-factor-end Inv-loop μ-loop
-part-times-factor-end c = search needs
-
--- src/interpolation.rt:45:51
-cast-times-factor : tie.Need-cast-times-factor Inv-loop μ-loop
-cast-times-factor c = search needs
-
--- src/interpolation.rt:45:42
-add-times-factor : tie.Need-add-times-factor Inv-loop μ-loop
-add-times-factor c = search needs
-
--- src/interpolation.rt:45:9
-times-factor-requires : tie.Need-times-factor-requires Inv-loop μ-loop
-times-factor-requires c κs = search needs
-
--- src/interpolation.rt:43:5
-loop-less : tie.Need-loop-less Inv-loop μ-loop
-loop-less c = search needs
-
--- src/interpolation.rt:43:5
 loop-again : tie.Need-loop-again Inv-loop μ-loop
-loop-again c = search needs
+loop-again c =
+    let now = c .before .before .before .before .before .loop in
+    let args = c .before .before .before .before .before .before .before .args in
+    let v = args .v .now in
+    let j = now .i - 1 in
+    let x = args .first + j in
+    let m = length v - suc j in
+    let i-is : now .i ≡ suc j = omega arith in
+    let next : args .first + suc j ≡ suc x = omega arith in
+    let left : length v - j ≡ suc m = omega arith in
+    let here : j < length v = omega arith in
+    let done = powers p (consecutive (suc x) m) (drop (suc j) v) in
+    let so-far : now .v ≡ take (suc j) v ++ done = rw (i-is, next) at (now .inv .2) in
+    let back = lent-back (λ (part : List ℕ). timesFactor p x part) (now .v) j (c .before .before .times-factor .ensures) in (
+      omega arith,
+      rw (back, length-append, length-factor, length-drop, length-take) (omega arith),
+      back ∙ rw (so-far, back-part v j here done (λ (part : List ℕ). timesFactor p x part), left)
+          (ap (λ (r : List ℕ). take j v ++ r) (step v x m j here)),
+    )
 
--- src/interpolation.rt:38:1
-same-length : tie.Need-same-length Inv-loop μ-loop
-same-length c = search needs
-
--- src/interpolation.rt:38:1
 returns : tie.Need-returns Inv-loop μ-loop
-returns c = search needs
+returns c =
+    let now = c .before .loop in
+    let none : now .i ≡ 0 = omega arith in
+    rw (none, add-zero, sub-zero) at (now .inv .2)
 
 pub expand-powers-spec : {M : Type 1} → statement M
-expand-powers-spec =
-    tie.close
-    (tie.spec
-    Inv-loop
-    μ-loop
-    loop-holds
-    sub-i
-    mul-times-factor
-    sub-times-factor
-    part-times-factor-start
-    part-times-factor-end
-    cast-times-factor
-    add-times-factor
-    times-factor-requires
-    loop-less
-    loop-again
-    same-length
-    returns)
+expand-powers-spec = tie.close
+    (tie.spec Inv-loop μ-loop loop-holds (λ c. search needs) (λ c. search needs) (λ c. search needs) (λ c. search needs) (λ c. search needs) (λ c. search needs) (λ c. search needs) (λ c κs. search needs) (λ c. search needs) loop-again (λ c. search needs) returns)

@@ -1,5 +1,5 @@
 -- Invariant: the words before i are done; those from i on are the given ones.
-use mathlib.Core.Path.{_≡_, refl, sym, _∙_, ap}
+use mathlib.Core.Path.{_≡_, sym, _∙_}
 use mathlib.Core.List.{List, _++_, append-nil}
 use Prim.Native.Nat.{ℕ, _+_, _*_, _-_, _≤_, _<_, _%_}
 use native.Mathlib.Numerals.{add-one}
@@ -12,9 +12,6 @@ use Rattle.poly.specs.Interpolation.{differences}
 use Rattle.poly.proofs.Slices.{front-word, rest-kept, kept-word, kept-rest}
 use Rattle.poly.proofs.interpolation.subtract_and_divide.Statement.{statement}
 use Rattle.poly.proofs.interpolation.subtract_and_divide.Tie as tie
-use Rattle.poly.proofs.interpolation.subtract_and_divide.Reads as reads
-use Rattle.poly.proofs.interpolation.subtract_and_divide.Lts as lts
-use Rattle.field.proofs.times.Reads as times-reads
 
 abbrev Inv-loop : tie.InvT-loop
 Inv-loop v₀ y inverses minus-y i₀ v i =
@@ -47,8 +44,7 @@ loop-again : tie.Need-loop-again Inv-loop μ-loop
 loop-again c =
     let now = c .before .before .before .before .loop in
     let args = c .before .before .before .before .before .before .args in
-    let here : now .i < length (now .v) = omega arith in
-    (
+    let here : now .i < length (now .v) = omega arith in (
       search needs,
       simp length-set (search needs),
       rest-kept (now .v) (now .i) _ here ∙ kept-rest (now .v) (args .v .now) (now .i) (now .inv .2),
