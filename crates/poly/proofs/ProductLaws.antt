@@ -1,15 +1,15 @@
 -- The law of the product's loop: what it adds into a room is the product; in a room of zeros it leaves the product's words.
 use mathlib.Core.Path.{_≡_, refl, sym, _∙_}
 use mathlib.Core.List.{List, [], _∷_, _++_}
-use Prim.Native.Nat.{ℕ, zero, suc, _+_, _-_, _<_, _≤_}
+use Prim.Native.Nat.{ℕ, zero, suc, _+_, _*_, _-_, _^_, _<_, _≤_}
 use native.Mathlib.Omega.{arith}
 use lib.ListN.{length, take, drop, length-append, length-take, length-drop, length-replicate}
 use Rattle.algebra.specs.Congruence.{_≈⟨_⟩_}
-use Rattle.algebra.specs.Polynomial.{Words, product, reduced}
-use Rattle.algebra.proofs.Congruence.{≈-refl, ≈-eq, ≈-sym, ≈-plus, by}
-use Rattle.algebra.proofs.Polynomial.{length-sum, length-multiple, length-reduced}
-use Rattle.algebra.proofs.Weights.{weigh, weights, by-weights, weigh-sum, weigh-multiple}
-use Rattle.algebra.proofs.Same.{≋-reduced, reduced-words, words-equal}
+use Rattle.algebra.specs.Polynomial.{Words, value, product, reduced}
+use Rattle.algebra.proofs.Congruence.{≈-refl, ≈-eq, ≈-sym, ≈-trans, ≈-plus, by}
+use Rattle.algebra.proofs.Polynomial.{length-sum, length-multiple, length-reduced, value-product}
+use Rattle.algebra.proofs.Weights.{weigh, weights, by-weights, weigh-sum, weigh-multiple, value-weigh}
+use Rattle.algebra.proofs.Same.{≋-value, ≋-reduced, reduced-words, words-equal}
 use Rattle.poly.specs.AddScaled.{scaled}
 use Rattle.poly.specs.Product.{addProduct, zeros, within}
 use Rattle.poly.proofs.Words.{words-append, words-take, words-drop, words-zero, weigh-append, weigh-zeros}
@@ -89,3 +89,8 @@ module _ {p : ℕ} (positive : 0 < p) (f g : List ℕ) (n : ℕ) where
       (≈-plus (weigh-add-product p f g (zeros n) φ (rw (length-replicate {A = ℕ} n 0) fits))
       (≈-sym (weights (reduced p (product f g)) (product f g) (≋-reduced p (product f g)) φ)))
       (omega (arith, weigh-zeros n φ)))))
+
+  pub product-value : (s : ℕ) → value (within n (reduced p (product f g))) s ≈⟨ p ⟩ value f s * value g s
+  product-value s =
+      rw (value-weigh (within n (reduced p (product f g))) s, weigh-within n (reduced p (product f g)) (λ k. s ^ k), ← value-weigh (reduced p (product f g)) s)
+      (≈-trans (≋-value (≋-reduced p (product f g)) s) (≈-eq p (value-product f g s)))

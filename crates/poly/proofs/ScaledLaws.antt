@@ -6,9 +6,9 @@ use native.Mathlib.Nat.{mod-lt}
 use native.Mathlib.Omega.{arith}
 use lib.ListN.{length}
 use Rattle.algebra.specs.Congruence.{_≈⟨_⟩_}
-use Rattle.algebra.specs.Polynomial.{Words}
+use Rattle.algebra.specs.Polynomial.{Words, sum, multiple, _≋⟨_⟩_}
 use Rattle.algebra.proofs.Congruence.{≈-refl, ≈-eq, ≈-plus, ≈-times, ≈-reduced, by}
-use Rattle.algebra.proofs.Weights.{weigh}
+use Rattle.algebra.proofs.Weights.{weigh, by-weights, weigh-sum, weigh-multiple}
 use Rattle.poly.specs.AddScaled.{scaled}
 use Rattle.poly.proofs.Slices.{same-word}
 use Rattle.poly.proofs.Words.{words-cons, words-rest}
@@ -46,3 +46,6 @@ weigh-scaled p k [] dst φ h = ≈-eq p (omega arith)
 weigh-scaled p k (b ∷ src) [] φ h = absurd (omega arith)
 weigh-scaled p k (b ∷ src) (a ∷ dst) φ h =
     by (≈-plus (≈-times (φ 0) (≈-reduced p (a + k * b))) (weigh-scaled p k src dst (λ i. φ (suc i)) (omega arith))) (omega arith)
+
+pub scaled-sum : (p k : ℕ) (src dst : List ℕ) → length src ≤ length dst → scaled p k src dst ≋⟨ p ⟩ sum dst (multiple k src)
+scaled-sum p k src dst h = by-weights (λ φ. rw (weigh-sum, weigh-multiple) (weigh-scaled p k src dst φ h))

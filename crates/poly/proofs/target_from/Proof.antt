@@ -95,4 +95,6 @@ returns c =
 
 pub target-from-spec : {M : Type 1} → statement M
 target-from-spec = tie.close
-    (tie.spec Inv-loop μ-loop (λ c. search needs) (λ c. search needs) (λ c. search needs) loop-holds (λ c. search needs) (λ c. search needs) (λ c. search needs) (λ c. search needs) sub-times-factor part-times-factor-start part-times-factor-end (λ c. search needs) (λ c. search needs) (λ c κs. search needs) (λ c. search needs) loop-again same-length returns)
+    (tie.spec Inv-loop μ-loop (λ c. search needs) (λ c. search needs) (λ c. search needs) loop-holds (λ c. search needs)
+    (λ c. search needs) (λ c. search needs) (λ c. search needs) sub-times-factor part-times-factor-start part-times-factor-end
+    (λ c. search needs) (λ c. search needs) (λ c κs. search needs) (λ c. search needs) loop-again same-length returns)

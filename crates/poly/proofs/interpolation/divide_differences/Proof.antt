@@ -75,4 +75,6 @@ returns c =
 
 pub divide-differences-spec : {M : Type 1} → statement M
 divide-differences-spec = tie.close
-    (tie.spec Inv-loop μ-loop loop-holds (λ c. search needs) (λ c. search needs) (λ c. search needs) (λ c. search needs) (λ c. search needs) (λ c. search needs) (λ c. search needs) subtract-and-divide-requires (λ c. search needs) loop-again (λ c. search needs) returns)
+    (tie.spec Inv-loop μ-loop loop-holds (λ c. search needs) (λ c. search needs) (λ c. search needs) (λ c. search needs)
+    (λ c. search needs) (λ c. search needs) (λ c. search needs) subtract-and-divide-requires (λ c. search needs) loop-again
+    (λ c. search needs) returns)
