@@ -8,6 +8,8 @@ ghost use Rattle.algebra.specs.Points.{consecutive};
 ghost use Rattle.algebra.specs.Basis.{BasisWeights};
 ghost use Rattle.algebra.specs.Combination.{total};
 ghost use Rattle.algebra.proofs.ConsecutiveBasis.{descent};
+ghost use Rattle.basis.specs.Passes.{pointsBefore, timesBefore, timesAfter};
+ghost use Rattle.basis.specs.BasisAt.{BasisAt};
 ghost use Rattle.field.specs.Field.{p, InverseTable};
 
 // The inverse of −1 · −2 · .. · −after: the weight of the first point, with as many points after it.
@@ -39,6 +41,47 @@ pub fn weights(out: &mut [u32], inverses: &[u32; 256])
         weight = field::times(next, field::P - ((last - i) as u32));
         i += 1;
     }
+}
+
+// Each word times all (s − x) of the points before its own. Gives back all (s − x): the target's value at s.
+fn times_before(out: &mut [u32], s: u32) -> u32
+    requires { ⌜ length (now out) ≤ 256 ⌝ }
+    ensures { λ r. ⌜ (now (out .exit) ≡ timesBefore p s (now (out .entry))) × (r ≡ pointsBefore p s (length (now (out .entry))) % p) ⌝ }
+{
+    let mut before = 1;
+    let mut i = 0;
+    while i < out.len() {
+        out[i] = field::times(out[i], before);
+        i += 1;
+        before = field::times(before, field::minus(s, i as u32));
+    }
+    before
+}
+
+// Each word times all (s − x) of the points after its own.
+fn times_after(out: &mut [u32], s: u32)
+    requires { ⌜ length (now out) ≤ 256 ⌝ }
+    ensures { λ _. ⌜ now (out .exit) ≡ timesAfter p s (now (out .entry)) ⌝ }
+{
+    let mut after = 1;
+    let mut i = out.len();
+    while 0 < i {
+        let factor = field::minus(s, i as u32);
+        i -= 1;
+        out[i] = field::times(out[i], after);
+        after = field::times(after, factor);
+    }
+}
+
+// The basis values of the points 1..m at s, into m words, and the target's value at s.
+pub fn basis_values(out: &mut [u32], s: u32, inverses: &[u32; 256]) -> u32
+    requires { ⌜ (0 < length (now out)) × (length (now out) ≤ 256) × InverseTable (now inverses) ⌝ }
+    ensures { λ r. ⌜ BasisAt p (length (now (out .entry))) s (now (out .exit)) r ⌝ }
+{
+    weights(out, inverses);
+    let target = times_before(out, s);
+    times_after(out, s);
+    target
 }
 
 // The sum of the words of y times those of b, word by word.
