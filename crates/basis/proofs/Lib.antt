@@ -1,2 +1,3 @@
 pub mod WeightLaws
 pub mod PassLaws
+pub mod ColumnLaws

@@ -4,13 +4,16 @@ ghost use mathlib.Core.Path.{_≡_};
 ghost use Prim.Native.Nat.{_*_, _%_, _≤_, _<_};
 ghost use lib.ListN.{length, getD};
 ghost use Rattle.algebra.specs.Congruence.{Inverse};
-ghost use Rattle.algebra.specs.Points.{consecutive};
+ghost use Rattle.algebra.specs.Polynomial.{Words};
+ghost use Rattle.algebra.specs.Points.{consecutive, Through};
 ghost use Rattle.algebra.specs.Basis.{BasisWeights};
 ghost use Rattle.algebra.specs.Combination.{total};
 ghost use Rattle.algebra.proofs.ConsecutiveBasis.{descent};
 ghost use Rattle.basis.specs.Passes.{pointsBefore, timesBefore, timesAfter};
 ghost use Rattle.basis.specs.BasisAt.{BasisAt};
 ghost use Rattle.field.specs.Field.{p, InverseTable};
+ghost use Rattle.poly.specs.Product.{zeros};
+ghost use Rattle.basis.specs.Column.{Prepared, AddedFirst};
 
 // The inverse of −1 · −2 · .. · −after: the weight of the first point, with as many points after it.
 fn first_weight(after: usize, inverses: &[u32; 256]) -> u32
@@ -96,4 +99,42 @@ pub fn dot(y: &[u32], b: &[u32]) -> u32
         i += 1;
     }
     sum
+}
+
+// All words 0.
+fn clear(out: &mut [u32])
+    ensures { λ _. ⌜ now (out .exit) ≡ zeros (length (now (out .entry))) ⌝ }
+{
+    let mut i = 0;
+    while i < out.len() {
+        out[i] = 0;
+        i += 1;
+    }
+}
+
+// Adds to the words of a list of m words the list through the values y at 1..m: for each value that is not 0 its weight times
+// the target divided by X − x, which is 0 at all points but x. That is 2 m operations for such a value, and none for a 0.
+fn add_columns(out: &mut [u32], y: &[u32], z: &[u32], weights: &[u32])
+    requires { ⌜ (length (now y) ≡ length (now out)) × Words p (now out) × Prepared p (length (now out)) (now z) (now weights) ⌝ }
+    ensures { λ _. ⌜ AddedFirst p (consecutive 1 (length (now (y .entry)))) (λ i. getD (now (y .entry)) i 0) (length (now (y .entry))) (now (out .entry)) (now (out .exit)) ⌝ }
+{
+    let mut i = 0;
+    while i < y.len() {
+        let here = y[i];
+        let weight = weights[i];
+        i += 1;
+        if here != 0 {
+            poly::add_divided(out, field::times(here, weight), z, i as u32);
+        }
+    }
+}
+
+// The list of m words that takes the values y at the points 1..m, where z is the target of these points and weights their
+// basis weights. What out held before does not count.
+pub fn column_through(out: &mut [u32], y: &[u32], z: &[u32], weights: &[u32])
+    requires { ⌜ (length (now y) ≡ length (now out)) × Prepared p (length (now out)) (now z) (now weights) ⌝ }
+    ensures { λ _. ⌜ Through p (consecutive 1 (length (now (y .entry)))) (λ i. getD (now (y .entry)) i 0) (now (out .exit)) ⌝ }
+{
+    clear(out);
+    add_columns(out, y, z, weights);
 }

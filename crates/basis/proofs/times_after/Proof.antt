@@ -59,8 +59,7 @@ loop-again c =
     let so-far : now .out ≡ take (suc j) f ++ done = rw i-is at (now .inv .3) in
     let after : now .after ≡ v % p = rw i-is at (now .inv .2) in
     let factor : c .before .before .before .minus .result ≡ (s + negative p (suc j)) % p = rw i-is at (c .before .before .before .minus .ensures) in
-    let read : c .before .times .result ≡ getD f j 0 * now .after % p = rw (so-far, back-get f j here done) at (c .before .times .ensures) in
-    (
+    let read : c .before .times .result ≡ getD f j 0 * now .after % p = rw (so-far, back-get f j here done) at (c .before .times .ensures) in (
       search needs,
       simp length-set (search needs),
       running-factor p s (suc j) v after factor (c .times2 .ensures) (next-from p s m j here),

@@ -48,8 +48,7 @@ loop-again c =
     let i = now .i in
     let s = c .before .before .before .before .before .before .before .args .s in
     let v = pointsBefore p s i in
-    let word = times-running p s (getD (now .out) i 0) v (now .inv .2) (c .before .before .times .ensures) in
-    (
+    let word = times-running p s (getD (now .out) i 0) v (now .inv .2) (c .before .before .times .ensures) in (
       search needs,
       simp length-set (search needs),
       rw add-one (running-factor p s (suc i) v (now .inv .2) (rw add-one at (c .before .minus .ensures)) (c .times2 .ensures) (next-before p s i)),
@@ -60,8 +59,7 @@ returns : tie.Need-returns Inv-loop μ-loop
 returns c =
     let now = c .before .loop in
     let args = c .before .before .before .args in
-    let all : now .i ≡ length (args .out .now) = omega arith in
-    (
+    let all : now .i ≡ length (args .out .now) = omega arith in (
       sym (end (λ j a. a * pointsBefore p (args .s) j % p) (now .out) (now .i) (omega arith)) ∙ now .inv .3,
       rw all at (now .inv .2),
     )
