@@ -15,3 +15,5 @@ pub mod Combination
 pub mod Lagrange
 pub mod Consecutive
 pub mod ConsecutiveBasis
+pub mod Every
+pub mod Tests
