@@ -16,3 +16,5 @@ pub mod Lagrange
 pub mod Consecutive
 pub mod ConsecutiveBasis
 pub mod Without
+pub mod Every
+pub mod Tests
