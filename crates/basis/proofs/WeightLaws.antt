@@ -1,5 +1,5 @@
 -- The steps of the basis weights at consecutive points: one factor more for a product of differences is one inverse
--- more for its weight. And there is one list of basis weights.
+-- more for its weight.
 use mathlib.Core.Path.{_≡_, sym, _∙_}
 use mathlib.Core.List.{List}
 use Prim.Native.Nat.{ℕ, _+_, _*_, _-_, _%_, _<_, _≤_}
@@ -53,8 +53,3 @@ module _ {p : ℕ} (pos : 0 < p) where
 
 pub same-inverse : {p a b w : ℕ} → a ≈⟨ p ⟩ b → Inverse p b w → Inverse p a w
 same-inverse {p} {w = w} h k = record { word = k .word; leaves-one = ≈-trans (≈-product h (≈-refl p w)) (k .leaves-one) }
-
-pub weights-unique : {p : ℕ} → Prime p → {xs ws vs : List ℕ} → BasisWeights p xs ws → BasisWeights p xs vs → ws ≡ vs
-weights-unique prime {xs} {ws} {vs} h k = ext-getD 0 ws vs (h .size ∙ sym (k .size)) (λ i l.
-    let inside = rw (h .size) at l in
-    inverse-unique prime (h .inverse i inside) (k .inverse i inside))
