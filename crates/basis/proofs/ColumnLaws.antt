@@ -21,7 +21,6 @@ use Rattle.algebra.proofs.Without.{divided-target}
 use Rattle.poly.specs.AddScaled.{scaled}
 use Rattle.poly.specs.Product.{zeros}
 use Rattle.poly.proofs.ScaledLaws.{length-scaled, words-scaled, scaled-sum}
-use Rattle.poly.proofs.Words.{words-zero}
 use Rattle.basis.specs.Column.{AddedFirst}
 
 -- nothing is added yet

@@ -1,6 +1,6 @@
 -- The two passes of the basis values: what their running words are, and that together they multiply each word by all (s − x) of the
 -- other points. So they make the basis values of the basis weights.
-use mathlib.Core.Path.{_≡_, refl, sym, _∙_, ap}
+use mathlib.Core.Path.{_≡_, refl, _∙_, ap}
 use mathlib.Core.List.{List, [], _∷_}
 use Prim.Native.Nat.{ℕ, zero, suc, _+_, _*_, _-_, _%_, _<_}
 use native.Mathlib.Nat.{mod-lt, zero-add, add-zero, add-suc, suc-add}
@@ -10,7 +10,7 @@ use Rattle.algebra.specs.Congruence.{_≈⟨_⟩_, negative}
 use Rattle.algebra.specs.Polynomial.{value}
 use Rattle.algebra.specs.Points.{consecutive, target}
 use Rattle.algebra.specs.Basis.{apartness, others, BasisWeights, BasisValues}
-use Rattle.algebra.proofs.Congruence.{≈-eq, ≈-refl, ≈-sym, ≈-trans, ≈-plus, ≈-times, ≈-product, ≈-reduced, by}
+use Rattle.algebra.proofs.Congruence.{≈-eq, ≈-sym, ≈-trans, ≈-plus, ≈-times, ≈-product, ≈-reduced, by}
 use Rattle.algebra.proofs.Target.{target-value}
 use Rattle.algebra.proofs.Consecutive.{length-consecutive}
 use Rattle.algebra.proofs.ConsecutiveBasis.{value-none, target-append, consecutive-last, without-consecutive}

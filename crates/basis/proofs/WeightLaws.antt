@@ -1,16 +1,11 @@
 -- The steps of the basis weights at consecutive points: one factor more for a product of differences is one inverse
 -- more for its weight.
-use mathlib.Core.Path.{_≡_, sym, _∙_}
-use mathlib.Core.List.{List}
+use mathlib.Core.Path.{_≡_}
 use Prim.Native.Nat.{ℕ, _+_, _*_, _-_, _%_, _<_, _≤_}
 use native.Mathlib.Nat.{mod-lt}
 use native.Mathlib.Omega.{arith}
-use lib.Seq.{ext-getD}
 use Rattle.algebra.specs.Congruence.{_≈⟨_⟩_, negative, Inverse}
-use Rattle.algebra.specs.Prime.{Prime}
-use Rattle.algebra.specs.Basis.{BasisWeights}
 use Rattle.algebra.proofs.Congruence.{≈-refl, ≈-sym, ≈-trans, ≈-product, ≈-plus, ≈-times, ≈-negative, ≈-whole, ≈-reduced, by}
-use Rattle.algebra.proofs.Inverse.{inverse-unique}
 
 module _ {p : ℕ} (pos : 0 < p) where
   -- what is left of p is minus the number

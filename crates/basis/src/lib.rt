@@ -1,5 +1,6 @@
 // What a value at a point s costs when no polynomial is made (document 01, "Query and checks"), at the points 1..m, m at most 256:
-// the basis weights, the basis values with the target's value, and the sum of given values times basis values.
+// the basis weights, the basis values with the target's value, the sum of given values times basis values; and with the same weights
+// a column ("Polynomials") from values most of which are 0.
 ghost use mathlib.Core.Path.{_≡_};
 ghost use Prim.Native.Nat.{_*_, _%_, _≤_, _<_};
 ghost use lib.ListN.{length, getD};
@@ -9,10 +10,10 @@ ghost use Rattle.algebra.specs.Points.{consecutive, Through};
 ghost use Rattle.algebra.specs.Basis.{BasisWeights};
 ghost use Rattle.algebra.specs.Combination.{total};
 ghost use Rattle.algebra.proofs.ConsecutiveBasis.{descent};
-ghost use Rattle.basis.specs.Passes.{pointsBefore, timesBefore, timesAfter};
-ghost use Rattle.basis.specs.BasisAt.{BasisAt};
 ghost use Rattle.field.specs.Field.{p, InverseTable};
 ghost use Rattle.poly.specs.Product.{zeros};
+ghost use Rattle.basis.specs.Passes.{pointsBefore, timesBefore, timesAfter};
+ghost use Rattle.basis.specs.BasisAt.{BasisAt};
 ghost use Rattle.basis.specs.Column.{Prepared, AddedFirst};
 
 // The inverse of −1 · −2 · .. · −after: the weight of the first point, with as many points after it.
@@ -116,7 +117,8 @@ fn clear(out: &mut [u32])
 // the target divided by X − x, which is 0 at all points but x. That is 2 m operations for such a value, and none for a 0.
 fn add_columns(out: &mut [u32], y: &[u32], z: &[u32], weights: &[u32])
     requires { ⌜ (length (now y) ≡ length (now out)) × Words p (now out) × Prepared p (length (now out)) (now z) (now weights) ⌝ }
-    ensures { λ _. ⌜ AddedFirst p (consecutive 1 (length (now (y .entry)))) (λ i. getD (now (y .entry)) i 0) (length (now (y .entry))) (now (out .entry)) (now (out .exit)) ⌝ }
+    ensures { λ _. ⌜ AddedFirst p (consecutive 1 (length (now (y .entry)))) (λ i. getD (now (y .entry)) i 0) (length (now (y .entry)))
+        (now (out .entry)) (now (out .exit)) ⌝ }
 {
     let mut i = 0;
     while i < y.len() {

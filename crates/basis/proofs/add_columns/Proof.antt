@@ -17,10 +17,6 @@ use Rattle.basis.specs.Column.{Prepared, AddedFirst}
 use Rattle.basis.proofs.ColumnLaws.{added-none, added-zero, added-column}
 use Rattle.basis.proofs.add_columns.Statement.{statement}
 use Rattle.basis.proofs.add_columns.Tie as tie
-use Rattle.basis.proofs.add_columns.Reads as reads
-use Rattle.basis.proofs.add_columns.Lts as lts
-use Rattle.field.proofs.times.Reads as times-reads
-use Rattle.poly.proofs.add_divided.Reads as add-divided-reads
 
 abbrev Inv-loop : tie.InvT-loop
 Inv-loop out₀ y z weights i₀ out i =
@@ -87,4 +83,6 @@ returns c =
 
 pub add-columns-spec : {M : Type 1} → statement M
 add-columns-spec = tie.close
-    (tie.spec Inv-loop μ-loop loop-holds (λ c. search needs) (λ c. search needs) (λ c. search needs) read-weight (λ c. search needs) (λ c κs. search needs) (λ c. search needs) add-divided-requires (λ c. search needs) loop-again (λ c. search needs) loop-again-2 (λ c. search needs) returns)
+    (tie.spec Inv-loop μ-loop loop-holds (λ c. search needs) (λ c. search needs) (λ c. search needs) read-weight (λ c. search needs)
+    (λ c κs. search needs) (λ c. search needs) add-divided-requires (λ c. search needs) loop-again (λ c. search needs) loop-again-2
+    (λ c. search needs) returns)

@@ -1,16 +1,10 @@
 -- The weights, then the two passes.
 use borrow.Author.Needs.{needs}
 use native.Mathlib.Omega.{arith}
-use lib.ListN.{length}
 use Rattle.field.specs.Field.{p}
 use Rattle.basis.proofs.PassLaws.{passes-at}
 use Rattle.basis.proofs.basis_values.Statement.{statement}
 use Rattle.basis.proofs.basis_values.Tie as tie
-use Rattle.basis.proofs.basis_values.Reads as reads
-use Rattle.basis.proofs.basis_values.Lts as lts
-use Rattle.basis.proofs.times_after.Reads as times-after-reads
-use Rattle.basis.proofs.times_before.Reads as times-before-reads
-use Rattle.basis.proofs.weights.Reads as weights-reads
 
 returns : tie.Need-returns
 returns c =

@@ -1,7 +1,7 @@
 -- Invariant: the words before i are 0, and those from i on are the given ones.
-use mathlib.Core.Path.{_≡_, sym}
+use mathlib.Core.Path.{_≡_}
 use mathlib.Core.List.{_++_, append-nil}
-use Prim.Native.Nat.{_+_, _-_, _≤_}
+use Prim.Native.Nat.{_-_, _≤_}
 use native.Mathlib.Omega.{arith}
 use borrow.Author.Needs.{needs}
 use borrow.Author.Fill.{fill-none, fill-more}
@@ -10,8 +10,6 @@ use lib.Seq.{drop-length}
 use Rattle.poly.specs.Product.{zeros}
 use Rattle.basis.proofs.clear.Statement.{statement}
 use Rattle.basis.proofs.clear.Tie as tie
-use Rattle.basis.proofs.clear.Reads as reads
-use Rattle.basis.proofs.clear.Lts as lts
 
 abbrev Inv-loop : tie.InvT-loop
 Inv-loop out₀ i₀ out i = (i ≤ length out₀) × (length out ≡ length out₀) × (out ≡ zeros i ++ drop i out₀)
@@ -37,4 +35,5 @@ returns c =
 
 pub clear-spec : {M : Type 1} → statement M
 clear-spec = tie.close
-    (tie.spec Inv-loop μ-loop loop-holds (λ c. search needs) (λ c. search needs) (λ c. search needs) (λ c. search needs) loop-again (λ c. search needs) returns)
+    (tie.spec Inv-loop μ-loop loop-holds (λ c. search needs) (λ c. search needs) (λ c. search needs) (λ c. search needs) loop-again
+    (λ c. search needs) returns)

@@ -10,10 +10,6 @@ use Rattle.poly.proofs.Words.{words-zero}
 use Rattle.basis.proofs.ColumnLaws.{length-zeros, through-added}
 use Rattle.basis.proofs.column_through.Statement.{statement}
 use Rattle.basis.proofs.column_through.Tie as tie
-use Rattle.basis.proofs.column_through.Reads as reads
-use Rattle.basis.proofs.column_through.Lts as lts
-use Rattle.basis.proofs.add_columns.Reads as add-columns-reads
-use Rattle.basis.proofs.clear.Reads as clear-reads
 
 add-columns-requires : tie.Need-add-columns-requires
 unfolding zeros

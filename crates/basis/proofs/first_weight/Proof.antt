@@ -41,4 +41,5 @@ returns c =
 
 pub first-weight-spec : {M : Type 1} → statement M
 first-weight-spec = tie.close
-    (tie.spec Inv-loop μ-loop loop-holds (λ c. search needs) (λ c. search needs) sub-times (λ c κs. search needs) (λ c. search needs) (λ c. search needs) loop-again returns)
+    (tie.spec Inv-loop μ-loop loop-holds (λ c. search needs) (λ c. search needs) sub-times (λ c κs. search needs) (λ c. search needs)
+    (λ c. search needs) loop-again returns)

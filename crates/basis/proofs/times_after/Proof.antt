@@ -1,7 +1,7 @@
 -- Invariant: the words from i on are done, those before i are the given ones, and after is the product over the points from number
 -- i on.
-use mathlib.Core.Path.{_≡_, sym, _∙_, ap}
-use mathlib.Core.List.{List, _∷_, _++_, append-nil}
+use mathlib.Core.Path.{_≡_, sym}
+use mathlib.Core.List.{List, _++_, append-nil}
 use Prim.Native.Nat.{ℕ, suc, _+_, _*_, _-_, _%_, _≤_, _<_}
 use native.Mathlib.Omega.{arith}
 use borrow.Author.Needs.{needs}
@@ -14,10 +14,6 @@ use Rattle.basis.specs.Passes.{mapped, pointsFrom, timesAfter}
 use Rattle.basis.proofs.PassLaws.{times-running, running-factor, none-from, next-from}
 use Rattle.basis.proofs.times_after.Statement.{statement}
 use Rattle.basis.proofs.times_after.Tie as tie
-use Rattle.basis.proofs.times_after.Reads as reads
-use Rattle.basis.proofs.times_after.Lts as lts
-use Rattle.field.proofs.minus.Reads as minus-reads
-use Rattle.field.proofs.times.Reads as times-reads
 
 abbrev Inv-loop : tie.InvT-loop
 Inv-loop out₀ s after₀ i₀ out after i =
@@ -74,4 +70,6 @@ returns c =
 
 pub times-after-spec : {M : Type 1} → statement M
 times-after-spec = tie.close
-    (tie.spec Inv-loop μ-loop loop-holds (λ c. search needs) (λ c κs. search needs) (λ c. search needs) (λ c. search needs) (λ c. search needs) (λ c κs. search needs) (λ c. search needs) (λ c. search needs) (λ c κs. search needs) (λ c. search needs) loop-again (λ c. search needs) returns)
+    (tie.spec Inv-loop μ-loop loop-holds (λ c. search needs) (λ c κs. search needs) (λ c. search needs) (λ c. search needs)
+    (λ c. search needs) (λ c κs. search needs) (λ c. search needs) (λ c. search needs) (λ c κs. search needs) (λ c. search needs)
+    loop-again (λ c. search needs) returns)

@@ -6,19 +6,14 @@ use Prim.Native.Nat.{ℕ, suc, _+_, _*_, _-_, _%_, _≤_, _<_}
 use native.Mathlib.Numerals.{add-one}
 use native.Mathlib.Omega.{arith}
 use borrow.Author.Needs.{needs}
-use lib.ListN.{length, take, drop, set, getD, length-set, drop-of-length-le, take-append-drop}
+use lib.ListN.{length, take, drop, set, getD, length-set, drop-of-length-le}
 use lib.Seq.{drop-cons, take-all}
-use Rattle.algebra.proofs.Congruence.{≈-times, ≈-reduced}
 use Rattle.field.specs.Field.{p}
 use Rattle.poly.proofs.Slices.{front-word, rest-kept}
 use Rattle.basis.specs.Passes.{mapped, pointsBefore, timesBefore}
 use Rattle.basis.proofs.PassLaws.{times-running, running-factor, none-before, next-before}
 use Rattle.basis.proofs.times_before.Statement.{statement}
 use Rattle.basis.proofs.times_before.Tie as tie
-use Rattle.basis.proofs.times_before.Reads as reads
-use Rattle.basis.proofs.times_before.Lts as lts
-use Rattle.field.proofs.minus.Reads as minus-reads
-use Rattle.field.proofs.times.Reads as times-reads
 
 abbrev Inv-loop : tie.InvT-loop
 Inv-loop out₀ s before₀ i₀ out before i =
@@ -66,4 +61,6 @@ returns c =
 
 pub times-before-spec : {M : Type 1} → statement M
 times-before-spec = tie.close
-    (tie.spec Inv-loop μ-loop loop-holds (λ c. search needs) (λ c. search needs) (λ c κs. search needs) (λ c. search needs) (λ c. search needs) (λ c. search needs) (λ c. search needs) (λ c κs. search needs) (λ c κs. search needs) (λ c. search needs) loop-again (λ c. search needs) returns)
+    (tie.spec Inv-loop μ-loop loop-holds (λ c. search needs) (λ c. search needs) (λ c κs. search needs) (λ c. search needs)
+    (λ c. search needs) (λ c. search needs) (λ c. search needs) (λ c κs. search needs) (λ c κs. search needs) (λ c. search needs)
+    loop-again (λ c. search needs) returns)
