@@ -17,7 +17,7 @@ use Rattle.algebra.proofs.ConsecutiveBasis.{value-none, target-append, consecut
 use Rattle.basis.specs.BasisAt.{BasisAt}
 use Rattle.basis.specs.Passes.{mapped, pointsBefore, pointsFrom, timesBefore, timesAfter}
 
-pub length-mapped : (g : ℕ → ℕ → ℕ) (k : ℕ) (f : List ℕ) → length (mapped g k f) ≡ length f
+length-mapped : (g : ℕ → ℕ → ℕ) (k : ℕ) (f : List ℕ) → length (mapped g k f) ≡ length f
 unfolding mapped
 length-mapped g k [] = refl
 length-mapped g k (a ∷ f) = ap suc (length-mapped g (suc k) f)

@@ -115,7 +115,7 @@ fn clear(out: &mut [u32])
 
 // Adds to the words of a list of m words the list through the values y at 1..m: for each value that is not 0 its weight times
 // the target divided by X − x, which is 0 at all points but x. That is 2 m operations for such a value, and none for a 0.
-fn add_columns(out: &mut [u32], y: &[u32], z: &[u32], weights: &[u32])
+fn add_values(out: &mut [u32], y: &[u32], z: &[u32], weights: &[u32])
     requires { ⌜ (length (now y) ≡ length (now out)) × Words p (now out) × Prepared p (length (now out)) (now z) (now weights) ⌝ }
     ensures { λ _. ⌜ AddedFirst p (consecutive 1 (length (now (y .entry)))) (λ i. getD (now (y .entry)) i 0) (length (now (y .entry)))
         (now (out .entry)) (now (out .exit)) ⌝ }
@@ -138,5 +138,5 @@ pub fn column_through(out: &mut [u32], y: &[u32], z: &[u32], weights: &[u32])
     ensures { λ _. ⌜ Through p (consecutive 1 (length (now (y .entry)))) (λ i. getD (now (y .entry)) i 0) (now (out .exit)) ⌝ }
 {
     clear(out);
-    add_columns(out, y, z, weights);
+    add_values(out, y, z, weights);
 }

@@ -11,9 +11,9 @@ use Rattle.basis.proofs.ColumnLaws.{length-zeros, through-added}
 use Rattle.basis.proofs.column_through.Statement.{statement}
 use Rattle.basis.proofs.column_through.Tie as tie
 
-add-columns-requires : tie.Need-add-columns-requires
+add-values-requires : tie.Need-add-values-requires
 unfolding zeros
-add-columns-requires c κs =
+add-values-requires c κs =
     let start = c .before .before .before .before .before .before .before .before .before in
     let m = length (start .args .out .now) in
     let cleared = c .before .before .before .clear .ensures in
@@ -25,7 +25,7 @@ returns c =
     let start = c .before .before .before .before .before .before .before .before .before .before .before .before in
     let m = length (start .args .y .now) in
     let cleared = c .before .before .before .before .before .before .clear .ensures in
-    through-added (length-consecutive 1 m) (rw (start .pre .0) cleared) (c .before .before .add-columns .ensures)
+    through-added (length-consecutive 1 m) (rw (start .pre .0) cleared) (c .before .before .add-values .ensures)
 
 pub column-through-spec : {M : Type 1} → statement M
-column-through-spec = tie.close (tie.spec (λ c κs. search needs) add-columns-requires (λ c. search needs) returns)
+column-through-spec = tie.close (tie.spec (λ c κs. search needs) add-values-requires (λ c. search needs) returns)

@@ -15,8 +15,8 @@ use Rattle.field.proofs.PrimeField.{p-prime}
 use Rattle.poly.specs.AddScaled.{scaled}
 use Rattle.basis.specs.Column.{Prepared, AddedFirst}
 use Rattle.basis.proofs.ColumnLaws.{added-none, added-zero, added-column}
-use Rattle.basis.proofs.add_columns.Statement.{statement}
-use Rattle.basis.proofs.add_columns.Tie as tie
+use Rattle.basis.proofs.add_values.Statement.{statement}
+use Rattle.basis.proofs.add_values.Tie as tie
 
 abbrev Inv-loop : tie.InvT-loop
 Inv-loop out₀ y z weights i₀ out i =
@@ -81,8 +81,8 @@ returns c =
     let all : c .before .loop .i ≡ length (c .before .before .before .before .before .before .args .y .now) = omega arith in
     rw all at (c .before .loop .inv .1)
 
-pub add-columns-spec : {M : Type 1} → statement M
-add-columns-spec = tie.close
+pub add-values-spec : {M : Type 1} → statement M
+add-values-spec = tie.close
     (tie.spec Inv-loop μ-loop loop-holds (λ c. search needs) (λ c. search needs) (λ c. search needs) read-weight (λ c. search needs)
     (λ c κs. search needs) (λ c. search needs) add-divided-requires (λ c. search needs) loop-again (λ c. search needs) loop-again-2
     (λ c. search needs) returns)
