@@ -30,8 +30,8 @@ pub fn public_section<'a>(circuit: &[u32], assignment: &'a [u32]) -> &'a [u32] {
 
 /// The values from index `from` on. The index of the first public value is always 1.
 fn read_values(words: &[u32], from: usize) -> Verdict<Vec<u64>> {
-    for at in from..words.len() {
-        need(is_field_word(words[at]) && (at != 1 || words[at] == 1), 7, at)?;
+    for (at, &word) in words.iter().enumerate().skip(from) {
+        need(is_field_word(word) && (at != 1 || word == 1), 7, at)?;
     }
     Ok(words[from..].iter().map(|&word| word.into()).collect())
 }

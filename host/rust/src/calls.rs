@@ -56,12 +56,7 @@ pub fn answer_check(circuit: &[u32], public: &[u32], point: u32, answers: [u32; 
     need(accepted, 13, 0)
 }
 
-pub fn division_check(
-    circuit: &[u32],
-    assignment: &[u32],
-    blinders: [u32; 3],
-    candidate: &[u32],
-) -> Verdict {
+pub fn division_check(circuit: &[u32], assignment: &[u32], blinders: [u32; 3], candidate: &[u32]) -> Verdict {
     let circuit = Circuit::read(circuit)?;
     let w = assignment::read(&circuit, assignment)?;
     field_words(&blinders, 0)?;

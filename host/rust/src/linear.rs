@@ -138,9 +138,9 @@ mod tests {
     #[test]
     fn inverse_factorials_undo_factorials() {
         let mut factorial = 1;
-        for k in 0..ROOM {
+        for (k, &inverse) in INVERSE_FACTORIAL.iter().enumerate() {
             factorial = mul(factorial, k.max(1) as u64);
-            assert_eq!(mul(factorial, INVERSE_FACTORIAL[k]), 1);
+            assert_eq!(mul(factorial, inverse), 1);
         }
     }
 

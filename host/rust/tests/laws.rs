@@ -56,8 +56,7 @@ fn the_quotient_is_what_long_division_leaves() {
     for job in made(11, 150) {
         let qap = Qap::new(&job.circuit);
         let [a, b, c] = qap.blinded_three(&job.w, job.blinders);
-        let (quotient, remainder) =
-            divide(add_scaled(&product(&a, &b), P - 1, &c), &target(job.circuit.m));
+        let (quotient, remainder) = divide(add_scaled(&product(&a, &b), P - 1, &c), &target(job.circuit.m));
         assert!(remainder.iter().all(|&word| word == 0));
         assert_eq!(qap.quotient(&job.w, job.blinders), quotient);
     }
@@ -127,9 +126,8 @@ fn any_three_answers_have_their_blinders() {
         });
         let four = qap.answers(&job.w, blinders, s);
         assert_eq!(four[..3], wanted);
-        let [u, v, t] = [A, B, C].map(|matrix| {
-            add(wanted[matrix], value(&qap.part(matrix, &job.w, 1..=q), s))
-        });
+        let [u, v, t] =
+            [A, B, C].map(|matrix| add(wanted[matrix], value(&qap.part(matrix, &job.w, 1..=q), s)));
         assert_eq!(mul(four[3], z), sub(mul(u, v), t));
     }
 }

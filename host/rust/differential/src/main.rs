@@ -37,10 +37,14 @@ impl Exports for Archive {
 
 fn main() -> ExitCode {
     let numbers: Vec<u64> = std::env::args().skip(1).filter_map(|word| word.parse().ok()).collect();
-    let [count, seed] = numbers[..] else {
-        eprintln!("usage: differential COUNT SEED");
-        return ExitCode::from(2);
-    };
+    if let [count, seed] = numbers[..] {
+        return compare_all(count, seed);
+    }
+    eprintln!("usage: differential COUNT SEED");
+    ExitCode::from(2)
+}
+
+fn compare_all(count: u64, seed: u64) -> ExitCode {
     let mut tally = Tally::default();
     for (index, case) in systematic::cases().iter().enumerate() {
         tally.add(&format!("small case {index}"), compare(&Archive, case));

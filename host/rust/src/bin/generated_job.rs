@@ -7,10 +7,10 @@ use std::process::ExitCode;
 
 fn main() -> io::Result<ExitCode> {
     let numbers: Vec<u64> = std::env::args().skip(1).filter_map(|word| word.parse().ok()).collect();
-    let [seed, index] = numbers[..] else {
-        eprintln!("usage: generated_job SEED INDEX");
-        return Ok(ExitCode::from(2));
-    };
-    io::stdout().write_all(&jobs::job(seed, index))?;
-    Ok(ExitCode::SUCCESS)
+    if let [seed, index] = numbers[..] {
+        io::stdout().write_all(&jobs::job(seed, index))?;
+        return Ok(ExitCode::SUCCESS);
+    }
+    eprintln!("usage: generated_job SEED INDEX");
+    Ok(ExitCode::from(2))
 }

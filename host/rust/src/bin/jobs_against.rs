@@ -11,12 +11,16 @@ use std::process::{Command, ExitCode, Stdio};
 
 fn main() -> ExitCode {
     let words: Vec<String> = std::env::args().skip(1).collect();
-    let [program, count, seed] = &words[..] else {
-        return usage();
-    };
-    let (Ok(count), Ok(seed)) = (count.parse::<u64>(), seed.parse()) else {
-        return usage();
-    };
+    if let [program, count, seed] = &words[..] {
+        if let (Ok(count), Ok(seed)) = (count.parse(), seed.parse()) {
+            return compare_all(program, count, seed);
+        }
+    }
+    eprintln!("usage: jobs_against PROGRAM COUNT SEED");
+    ExitCode::from(2)
+}
+
+fn compare_all(program: &str, count: u64, seed: u64) -> ExitCode {
     let mut tally = Tally::default();
     for (index, bytes) in systematic::jobs().iter().enumerate() {
         tally.add(&format!("small job {index}"), compare(program, bytes, 1 << 20));
@@ -30,11 +34,6 @@ fn main() -> ExitCode {
         tally.add(&name, compare(program, &job(seed, index), piece));
     }
     tally.close()
-}
-
-fn usage() -> ExitCode {
-    eprintln!("usage: jobs_against PROGRAM COUNT SEED");
-    ExitCode::from(2)
 }
 
 fn compare(program: &str, bytes: &[u8], piece: usize) -> Result<(), String> {
@@ -62,6 +61,6 @@ fn run(program: &str, bytes: &[u8], piece: usize) -> io::Result<Vec<u8>> {
     if output.status.success() {
         Ok(output.stdout)
     } else {
-        Err(io::Error::other(output.status.to_string()))
+        Err(io::Error::new(io::ErrorKind::Other, output.status.to_string()))
     }
 }

@@ -9,10 +9,10 @@ pub struct Chance(u64);
 impl Chance {
     pub fn new(seed: u64, index: u64) -> Chance {
         let mut chance = Chance(seed);
-        Chance(chance.next() ^ index.wrapping_mul(0xD134_2543_DE82_EF95))
+        Chance(chance.word() ^ index.wrapping_mul(0xD134_2543_DE82_EF95))
     }
 
-    pub fn next(&mut self) -> u64 {
+    pub fn word(&mut self) -> u64 {
         self.0 = self.0.wrapping_add(0x9E37_79B9_7F4A_7C15);
         let z = (self.0 ^ (self.0 >> 30)).wrapping_mul(0xBF58_476D_1CE4_E5B9);
         let z = (z ^ (z >> 27)).wrapping_mul(0x94D0_49BB_1331_11EB);
@@ -21,7 +21,7 @@ impl Chance {
 
     /// From 0 to bound − 1; the slight unevenness does not matter here.
     pub fn below(&mut self, bound: usize) -> usize {
-        (self.next() % bound as u64) as usize
+        (self.word() % bound as u64) as usize
     }
 
     pub fn within(&mut self, range: RangeInclusive<usize>) -> usize {
@@ -41,7 +41,7 @@ impl Chance {
         match self.below(4) {
             0 => self.below(4) as u32,
             1 => (P - 1) as u32 - self.below(3) as u32,
-            _ => (self.next() % P) as u32,
+            _ => (self.word() % P) as u32,
         }
     }
 

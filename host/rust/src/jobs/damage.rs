@@ -7,7 +7,21 @@ use crate::job::MOST_BYTES;
 
 /// The words at which some range of document 01 begins or ends, or arithmetic would wrap.
 pub const EDGE_WORDS: [u32; 16] = [
-    0, 1, 2, 3, 4, 255, 256, 257, 1024, 1025, P as u32 - 1, P as u32, P as u32 + 1, 0x7FFF_FFFF, 0x8000_0000,
+    0,
+    1,
+    2,
+    3,
+    4,
+    255,
+    256,
+    257,
+    1024,
+    1025,
+    P as u32 - 1,
+    P as u32,
+    P as u32 + 1,
+    0x7FFF_FFFF,
+    0x8000_0000,
     u32::MAX,
 ];
 
@@ -22,7 +36,8 @@ pub fn damage_words(chance: &mut Chance, sketch: &Sketch, words: &mut [u32]) {
         0 => words[chance.below(3)] = chance.pick(&[0, 257, sketch.n + 1, any_edge]),
         1 => {
             let at = chance.pick(&sketch.section_counts());
-            words[at] = chance.pick(&[words[at].wrapping_add(1), words[at].saturating_sub(1), 1025, any_edge]);
+            words[at] =
+                chance.pick(&[words[at].wrapping_add(1), words[at].saturating_sub(1), 1025, any_edge]);
         }
         2 => damage_entry(chance, sketch, words, |chance, entry| {
             let edges = [0, sketch.m + 1, sketch.n + 1, u32::MAX];

@@ -2,11 +2,22 @@
 //! wrong behaviour; a harness that passes with any of them set tests nothing.
 
 use second::exported;
-use std::hint::black_box;
 use std::slice::{from_raw_parts, from_raw_parts_mut};
 
 fn fault(name: &str) -> bool {
-    std::env::var_os("STUB_FAULT").is_some_and(|chosen| chosen == name)
+    std::env::var_os("STUB_FAULT").map_or(false, |chosen| chosen == name)
+}
+
+/// A frame of its own, so that it is taken only for the fault.
+fn go_deep() {
+    #[inline(never)]
+    fn large_frame() {
+        let mut frame = [0u8; 400_000];
+        frame.chunks_mut(1000).for_each(|part| unsafe { part.as_mut_ptr().write_volatile(1) });
+    }
+    if fault("deep") {
+        large_frame();
+    }
 }
 
 /// # Safety
@@ -18,6 +29,12 @@ pub unsafe extern "C" fn rowprover_answers(
     out: *mut u8,
     out_len: usize,
 ) -> u64 {
+    if fault("reads-past") {
+        let _ = job.add(job_len).read_volatile();
+    }
+    if fault("writes-input") && job_len > 0 {
+        (job as *mut u8).write_volatile(0);
+    }
     let (job, out) = (from_raw_parts(job, job_len), from_raw_parts_mut(out, out_len));
     let result = exported::answers(job, out);
     if fault("touches") && result != 0 && out_len > 0 {
@@ -39,9 +56,7 @@ pub unsafe extern "C" fn rowprover_answers(
             row => row,
         };
     }
-    if fault("deep") {
-        black_box([0u8; 400_000]);
-    }
+    go_deep();
     wrong_integer(result)
 }
 
@@ -62,9 +77,7 @@ pub unsafe extern "C" fn rowprover_check(
     if fault("accepts") && result == 13 {
         return 0;
     }
-    if fault("deep") {
-        black_box([0u8; 400_000]);
-    }
+    go_deep();
     wrong_integer(result)
 }
 
