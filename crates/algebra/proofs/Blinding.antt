@@ -20,13 +20,18 @@ use Rattle.algebra.proofs.Target.{length-target, target-zero}
 use Rattle.algebra.proofs.Division.{division, target-cancel}
 use Rattle.algebra.proofs.Products.{product-same, product-swap, product-sum-left, product-multiple-left, product-sum-right, product-multiple-right, product-constant}
 
+-- the equality at a point
+pub divides-value : {p : ℕ} {xs a b c h : List ℕ} → Divides p xs a b c h → (s : ℕ) →
+    value a s * value b s ≈⟨ p ⟩ value c s + value (target p xs) s * value h s
+divides-value e s = simp (value-product, value-sum) at (≋-value (e .equal) s)
+
 module _ {p : ℕ} (pos : 0 < p) (xs a b c : List ℕ) where
   -- A B − C = Z H fixes H
   divides-unique : (g h : List ℕ) → Divides p xs a b c g → Divides p xs a b c h → g ≋⟨ p ⟩ h
   divides-unique g h s t = target-cancel pos xs g h (by-weights (λ φ.
       let z = target p xs in
       let both = ≋-trans (≋-sym (s .equal)) (t .equal) in
-      let whole = rw (weigh-sum, weigh-sum) at (weights (sum c (product z g)) (sum c (product z h)) both φ) in
+      let whole = simp weigh-sum at (weights (sum c (product z g)) (sum c (product z h)) both φ) in
       by whole (omega arith)))
 
   divides-same : (g h : List ℕ) → g ≋⟨ p ⟩ h → Divides p xs a b c g → Divides p xs a b c h

@@ -14,11 +14,11 @@ use Rattle.algebra.proofs.Congruence.{≈-trans, ≈-plus, ≈-times, ≈-negat
 use Rattle.algebra.proofs.Inverse.{positive}
 use Rattle.algebra.proofs.Interpolation.{interpolation-unique}
 use Rattle.poly.specs.Factor.{timesFactor}
-use Rattle.poly.specs.Points.{consecutive}
+use Rattle.algebra.specs.Points.{consecutive}
 use Rattle.poly.specs.Interpolation.{differences, newton, powers, interpolated}
 use Rattle.poly.proofs.Words.{words-cons, words-first, words-rest}
 use Rattle.poly.proofs.FactorLaws.{length-factor, words-factor, factor-value}
-use Rattle.poly.proofs.PointLaws.{length-consecutive, consecutive-point, consecutive-distinct}
+use Rattle.algebra.proofs.Consecutive.{length-consecutive, consecutive-at, distinct-consecutive}
 
 pub newton-nil : (p : ℕ) (t : List ℕ) (n : ℕ) → newton p t n [] ≡ []
 unfolding newton
@@ -85,7 +85,7 @@ module _ {p : ℕ} (prime : Prime p) (t : List ℕ) (inverses : (i : ℕ) → i 
       (words-differences (positive prime) t y v (words-rest w)) in
       one-point-more (positive prime) x (consecutive (suc x) m) {y = λ i. getD (y ∷ v) i 0} (words-first w) rest (λ i h.
       let below : i < m = omega (arith, length-consecutive (suc x) m) in
-      rw (consecutive-point (suc x) m i below)
+      rw (consecutive-at (suc x) m i below)
       (slope (positive prime) (words-first w) x i (getD v i 0) (getD d i 0) (inverses i (omega arith))
       (rw (difference-word p t y v i (omega arith) (omega arith)) (≈-reduced p _))))
 
@@ -98,4 +98,4 @@ module _ {p : ℕ} (prime : Prime p) (t : List ℕ) (inverses : (i : ℕ) → i 
   pub interpolated-unique : (x : ℕ) (v : List ℕ) → length v ≤ suc (length t) → length v ≤ p → Words p v → {g : List ℕ} →
       Through p (consecutive x (length v)) (λ i. getD v i 0) g → interpolated p t x v ≡ g
   interpolated-unique x v enough few w s =
-      interpolation-unique prime (consecutive-distinct x (length v) few) (interpolated-through x v enough w) s
+      interpolation-unique prime (distinct-consecutive x (length v) few) (interpolated-through x v enough w) s

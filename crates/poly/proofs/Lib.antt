@@ -2,7 +2,6 @@ pub mod Slices
 pub mod Words
 pub mod ScaledLaws
 pub mod FactorLaws
-pub mod PointLaws
 pub mod ProductLaws
 pub mod InterpolationLaws
 pub mod DivisionLaws

@@ -4,7 +4,7 @@ use mathlib.Core.List.{List, [], _∷_}
 use Prim.Native.Nat.{ℕ, zero, suc, _+_, _*_, _-_, _%_}
 use lib.ListN.{length}
 use Rattle.poly.specs.Factor.{timesFactor}
-use Rattle.poly.specs.Points.{consecutive}
+use Rattle.algebra.specs.Points.{consecutive}
 
 -- (value − y) / 1, (value − y) / 2, .. of the values after y
 unfoldable pub differences : ℕ → List ℕ → ℕ → List ℕ → List ℕ

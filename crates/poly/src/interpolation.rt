@@ -5,7 +5,7 @@ ghost use Prim.Native.Nat.{_+_, _≤_, _<_};
 ghost use lib.ListN.{length};
 ghost use Rattle.algebra.specs.Polynomial.{Words};
 ghost use Rattle.field.specs.Field.{p, InverseTable};
-ghost use Rattle.poly.specs.Points.{consecutive};
+ghost use Rattle.algebra.specs.Points.{consecutive};
 ghost use Rattle.poly.specs.Interpolation.{differences, newton, powers, interpolated};
 
 // (value − y) times the inverse of 1, of 2, .., for the values after y.

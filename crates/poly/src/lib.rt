@@ -9,7 +9,7 @@ ghost use Rattle.algebra.proofs.Roots.{divided};
 ghost use Rattle.field.specs.Field.{p};
 ghost use Rattle.poly.specs.AddScaled.{scaled};
 ghost use Rattle.poly.specs.Factor.{timesFactor};
-ghost use Rattle.poly.specs.Points.{consecutive};
+ghost use Rattle.algebra.specs.Points.{consecutive};
 ghost use Rattle.poly.specs.Product.{addProduct, within};
 ghost use Rattle.poly.specs.Division.{division};
 

@@ -10,7 +10,7 @@ use lib.Seq.{drop-cons, drop-set-lt, getD-set-same, drop-at, length-take-le}
 use Rattle.algebra.specs.Points.{target}
 use Rattle.field.specs.Field.{p}
 use Rattle.poly.specs.Factor.{timesFactor}
-use Rattle.poly.specs.Points.{consecutive}
+use Rattle.algebra.specs.Points.{consecutive}
 use Rattle.poly.proofs.Slices.{lent-back}
 use Rattle.poly.proofs.FactorLaws.{length-factor, factor-target}
 use Rattle.poly.proofs.target_from.Statement.{statement}

@@ -9,7 +9,7 @@ use lib.ListN.{length, take, drop, getD, length-append, length-take, length-drop
 use lib.Seq.{drop-cons}
 use Rattle.field.specs.Field.{p}
 use Rattle.poly.specs.Factor.{timesFactor}
-use Rattle.poly.specs.Points.{consecutive}
+use Rattle.algebra.specs.Points.{consecutive}
 use Rattle.poly.specs.Interpolation.{powers}
 use Rattle.poly.proofs.Slices.{lent-back, back-part}
 use Rattle.poly.proofs.FactorLaws.{length-factor}
