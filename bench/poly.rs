@@ -1,17 +1,19 @@
 //! Times each polynomial loop beside the same algorithm in Rust, in one process, and prints a table.
-//! Both sides first have to give the same words. A time is the least of many short samples, taken in turn.
+//! Both sides first have to give the same words. A time is the least of many short samples, taken in turn, over rounds of the whole table.
 use std::hint::black_box;
 use std::time::Instant;
 
 const P: u64 = 2013265921;
 const SIZES: [usize; 3] = [64, 128, 256];
-const SAMPLES: usize = 3000;
+const ROUNDS: usize = 8;
+const SAMPLES: usize = 500;
 
 mod proved {
     #[link(name = "bench_poly", kind = "static")]
     extern "C" {
         pub fn bench_value_at(f: *const u32, f_len: usize, s: u32) -> u32;
         pub fn bench_add_scaled(dst: *mut u32, dst_len: usize, k: u32, src: *const u32, src_len: usize);
+        pub fn bench_times_factor(f: *mut u32, f_len: usize, x: u32);
         pub fn bench_target(z: *mut u32, z_len: usize);
         pub fn bench_product(f: *const u32, f_len: usize, g: *const u32, g_len: usize) -> u32;
         pub fn bench_divide(room: *mut u32, room_len: usize, low: *const u32, low_len: usize);
@@ -43,7 +45,8 @@ mod rust {
         }
     }
 
-    fn times_factor(f: &mut [u32], x: u32) {
+    #[inline(never)]
+    pub fn times_factor(f: &mut [u32], x: u32) {
         let k = minus(x);
         for i in 1..f.len() {
             f[i - 1] = word(f[i - 1], k, f[i]);
@@ -133,7 +136,7 @@ fn least(mut ours: impl FnMut(), mut theirs: impl FnMut()) -> (f64, f64) {
         ours();
         (20_000 / (start.elapsed().as_nanos() as usize + 1)).clamp(1, 64)
     };
-    let mut time = |side: &mut dyn FnMut()| {
+    let time = |side: &mut dyn FnMut()| {
         let start = Instant::now();
         for _ in 0..calls {
             side();
@@ -148,9 +151,11 @@ fn least(mut ours: impl FnMut(), mut theirs: impl FnMut()) -> (f64, f64) {
     best
 }
 
-/// One row of the table: the kernel's times at each size, its ratio to Rust, and how it grows.
-fn row(name: &str, mut at: impl FnMut(usize) -> (f64, f64)) {
-    let times = SIZES.map(|m| at(m));
+/// A kernel's name, and its times at a size: ours and Rust's.
+type Kernel<'a> = (&'a str, Box<dyn Fn(usize) -> (f64, f64) + 'a>);
+
+/// One row of the table: the times at each size, the ratio to Rust, and how the time grows.
+fn row(name: &str, times: [(f64, f64); 3]) {
     print!("| {name} |");
     for (ours, theirs) in times {
         print!(" {:.2} | {:.2} |", ours / 1000.0, ours / theirs);
@@ -170,55 +175,120 @@ fn changing(given: Vec<u32>, mut ours: impl FnMut(&mut [u32]), mut theirs: impl 
 /// A kernel that gives a word.
 fn giving(mut ours: impl FnMut() -> u32, mut theirs: impl FnMut() -> u32) -> (f64, f64) {
     assert_eq!(ours(), theirs(), "the two sides differ");
-    least(|| drop(black_box(ours())), || drop(black_box(theirs())))
+    least(
+        || {
+            black_box(ours());
+        },
+        || {
+            black_box(theirs());
+        },
+    )
+}
+
+fn kernels(table: &[u32; 256]) -> Vec<Kernel<'_>> {
+    use proved::*;
+    vec![
+        (
+            "value",
+            Box::new(move |m| {
+                let f = words(m + 1, 1);
+                giving(
+                    || unsafe { bench_value_at(f.as_ptr(), f.len(), 12345) },
+                    || rust::value_at(&f, 12345),
+                )
+            }),
+        ),
+        (
+            "add-scaled",
+            Box::new(move |m| {
+                let src = words(m + 1, 2);
+                changing(
+                    words(m + 1, 3),
+                    |d| unsafe { bench_add_scaled(d.as_mut_ptr(), d.len(), 54321, src.as_ptr(), src.len()) },
+                    |d| rust::add_scaled(d, 54321, &src),
+                )
+            }),
+        ),
+        (
+            "times (X − x)",
+            Box::new(move |m| {
+                changing(
+                    words(m + 1, 12),
+                    |f| unsafe { bench_times_factor(f.as_mut_ptr(), f.len(), 99) },
+                    |f| rust::times_factor(f, 99),
+                )
+            }),
+        ),
+        (
+            "target",
+            Box::new(move |m| {
+                changing(
+                    words(m + 1, 4),
+                    |z| unsafe { bench_target(z.as_mut_ptr(), z.len()) },
+                    rust::target,
+                )
+            }),
+        ),
+        (
+            "product",
+            Box::new(move |m| {
+                let (f, g) = (words(m + 1, 5), words(m + 1, 6));
+                giving(
+                    || unsafe { bench_product(f.as_ptr(), f.len(), g.as_ptr(), g.len()) },
+                    || rust::product(&f, &g)[512],
+                )
+            }),
+        ),
+        (
+            "division",
+            Box::new(move |m| {
+                let low = words(m, 7);
+                changing(
+                    words(2 * m + 1, 8),
+                    |r| unsafe { bench_divide(r.as_mut_ptr(), r.len(), low.as_ptr(), low.len()) },
+                    |r| rust::divide(r, &low),
+                )
+            }),
+        ),
+        (
+            "interpolation",
+            Box::new(move |m| {
+                changing(
+                    words(m, 9),
+                    |v| unsafe { bench_interpolate(v.as_mut_ptr(), v.len()) },
+                    |v| rust::interpolate(v, table),
+                )
+            }),
+        ),
+        (
+            "Z / (X − i) added",
+            Box::new(move |m| {
+                let z = words(m + 1, 10);
+                changing(
+                    words(m, 11),
+                    |c| unsafe { bench_add_divided(c.as_mut_ptr(), c.len(), 777, z.as_ptr(), z.len(), 3) },
+                    |c| rust::add_divided(c, 777, &z, 3),
+                )
+            }),
+        ),
+    ]
 }
 
 fn main() {
-    use proved::*;
     let table = inverses();
+    let kernels = kernels(&table);
+    let mut best = vec![[(f64::MAX, f64::MAX); 3]; kernels.len()];
+    for _ in 0..ROUNDS {
+        for (times, (_, at)) in best.iter_mut().zip(&kernels) {
+            for (time, m) in times.iter_mut().zip(SIZES) {
+                let (ours, theirs) = at(m);
+                *time = (time.0.min(ours), time.1.min(theirs));
+            }
+        }
+    }
     println!("| kernel | m = 64, µs | to Rust | m = 128, µs | to Rust | m = 256, µs | to Rust | growth |");
     println!("|---|---|---|---|---|---|---|---|");
-    row("value", |m| {
-        let f = words(m + 1, 1);
-        giving(|| unsafe { bench_value_at(f.as_ptr(), f.len(), 12345) }, || rust::value_at(&f, 12345))
-    });
-    row("add-scaled", |m| {
-        let src = words(m + 1, 2);
-        changing(
-            words(m + 1, 3),
-            |d| unsafe { bench_add_scaled(d.as_mut_ptr(), d.len(), 54321, src.as_ptr(), src.len()) },
-            |d| rust::add_scaled(d, 54321, &src),
-        )
-    });
-    row("target", |m| changing(words(m + 1, 4), |z| unsafe { bench_target(z.as_mut_ptr(), z.len()) }, rust::target));
-    row("product", |m| {
-        let (f, g) = (words(m + 1, 5), words(m + 1, 6));
-        giving(
-            || unsafe { bench_product(f.as_ptr(), f.len(), g.as_ptr(), g.len()) },
-            || rust::product(&f, &g)[512],
-        )
-    });
-    row("division", |m| {
-        let low = words(m, 7);
-        changing(
-            words(2 * m + 1, 8),
-            |r| unsafe { bench_divide(r.as_mut_ptr(), r.len(), low.as_ptr(), low.len()) },
-            |r| rust::divide(r, &low),
-        )
-    });
-    row("interpolation", |m| {
-        changing(
-            words(m, 9),
-            |v| unsafe { bench_interpolate(v.as_mut_ptr(), v.len()) },
-            |v| rust::interpolate(v, &table),
-        )
-    });
-    row("Z / (X − i) added", |m| {
-        let z = words(m + 1, 10);
-        changing(
-            words(m, 11),
-            |c| unsafe { bench_add_divided(c.as_mut_ptr(), c.len(), 777, z.as_ptr(), z.len(), 3) },
-            |c| rust::add_divided(c, 777, &z, 3),
-        )
-    });
+    for ((name, _), times) in kernels.iter().zip(best) {
+        row(name, times);
+    }
 }

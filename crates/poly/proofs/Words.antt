@@ -4,12 +4,10 @@ use mathlib.Core.List.{List, [], _∷_, _++_}
 use Prim.Native.Nat.{ℕ, zero, suc, _+_, _<_}
 use native.Mathlib.Nat.{zero-add, suc-add}
 use native.Mathlib.Omega.{arith}
-use lib.Dec.{T, ltb, ltb→lt}
-use lib.ListN.{length, take, drop, getD, replicate, length-drop}
+use lib.ListN.{length, take, drop, replicate, length-drop}
 use lib.Seq.{getD-drop}
 use Rattle.algebra.specs.Polynomial.{Each, Words}
 use Rattle.algebra.proofs.Weights.{weigh}
-use Rattle.field.proofs.Every.{every, at}
 
 pub words-cons : {p a : ℕ} {f : List ℕ} → a < p → Words p f → Words p (a ∷ f)
 words-cons {p} {a} {f} h w = record { below = at }
@@ -39,10 +37,6 @@ words-take (suc n) (a ∷ f) w = words-cons (words-first w) (words-take n f (wor
 pub words-zero : {p : ℕ} → 0 < p → (n : ℕ) → Words p (replicate n 0)
 words-zero h zero = record { below = λ i l. absurd (omega arith) }
 words-zero h (suc n) = words-cons h (words-zero h n)
-
--- of a list that is written out, by one test that the checker computes
-pub words-tested : (p : ℕ) (f : List ℕ) → T (every (λ i a. ltb a p) f) → Words p f
-words-tested p f t = record { below = λ i h. ltb→lt (getD f i 0) p (at (λ i a. ltb a p) f t i h) }
 
 pub weigh-append : (f g : List ℕ) (φ : ℕ → ℕ) → weigh (f ++ g) φ ≡ weigh f φ + weigh g (λ k. φ (length f + k))
 unfolding weigh
