@@ -1,5 +1,6 @@
 # make run: proves, builds and runs the demonstration. make test: the gate, the one verdict.
-.PHONY: run test
+# make bench: times the polynomial loops beside Rust (docs/BENCH.md).
+.PHONY: run test bench
 
 run:
 	rt check field_run
@@ -7,3 +8,6 @@ run:
 
 test:
 	bash .ci/run
+
+bench:
+	bash bench/run

@@ -9,7 +9,7 @@ use native.Mathlib.Omega.{arith}
 use lib.ListN.{getD}
 use Rattle.algebra.specs.Congruence.{_≈⟨_⟩_, negative}
 use Rattle.algebra.specs.Prime.{Prime}
-use Rattle.algebra.specs.Polynomial.{value, product, reduced, _≋⟨_⟩_}
+use Rattle.algebra.specs.Polynomial.{value, divided, product, reduced, _≋⟨_⟩_}
 use Rattle.algebra.specs.Points.{Distinct, Vanishes, factor, target, Quotient}
 use Rattle.algebra.proofs.Congruence.{≈-sym, ≈-trans, ≈-plus, ≈-times, ≈-negative, ≈-eq, by}
 use Rattle.algebra.proofs.Inverse.{positive}
@@ -17,7 +17,7 @@ use Rattle.algebra.proofs.Polynomial.{length-reduced, value-product}
 use Rattle.algebra.proofs.Weights.{weigh, weights, by-weights, weigh-product}
 use Rattle.algebra.proofs.Same.{≋-refl, ≋-sym, ≋-trans, ≋-value, ≋-reduced, reduced-words, words-equal}
 use Rattle.algebra.proofs.Difference.{difference, weigh-difference, difference-zero}
-use Rattle.algebra.proofs.Roots.{divided, length-divided, divided-weigh, vanishes-divided, distinct-rest}
+use Rattle.algebra.proofs.Roots.{length-divided, divided-weigh, vanishes-divided, distinct-rest}
 use Rattle.algebra.proofs.Target.{target-zero}
 
 -- times X + c, in weights

@@ -11,7 +11,7 @@ use lib.ListN.{length, getD}
 use lib.Seq.{ext-getD}
 use Rattle.algebra.specs.Congruence.{_≈⟨_⟩_, negative}
 use Rattle.algebra.specs.Prime.{Prime}
-use Rattle.algebra.specs.Polynomial.{value, multiple}
+use Rattle.algebra.specs.Polynomial.{value, divided, multiple}
 use Rattle.algebra.specs.Points.{Distinct, target, Through}
 use Rattle.algebra.specs.Basis.{without, apartness, others, BasisValues}
 use Rattle.algebra.specs.Combination.{total}
@@ -21,7 +21,7 @@ use Rattle.algebra.proofs.Interpolation.{first-apart}
 use Rattle.algebra.proofs.Combination.{total-first, total-times, total-≈}
 use Rattle.algebra.proofs.Polynomial.{length-multiple, value-multiple}
 use Rattle.algebra.proofs.Difference.{difference, length-difference, value-difference}
-use Rattle.algebra.proofs.Roots.{divided, length-divided, divided-value, distinct-rest}
+use Rattle.algebra.proofs.Roots.{length-divided, divided-value, distinct-rest}
 use Rattle.algebra.proofs.Target.{length-target, target-value, target-zero}
 
 -- the sum of u i times all (s − x_j) but its own

@@ -9,19 +9,13 @@ use native.Mathlib.Omega.{arith}
 use lib.ListN.{length, getD}
 use Rattle.algebra.specs.Congruence.{_≈⟨_⟩_}
 use Rattle.algebra.specs.Prime.{Prime}
-use Rattle.algebra.specs.Polynomial.{Each, value, _≋⟨_⟩_}
+use Rattle.algebra.specs.Polynomial.{Each, value, divided, _≋⟨_⟩_}
 use Rattle.algebra.specs.Points.{Distinct, Vanishes}
 use Rattle.algebra.proofs.Congruence.{≈-sym, ≈-plus, ≈-times, zero-or-not, by}
 use Rattle.algebra.proofs.Inverse.{cancel, positive}
 use Rattle.algebra.proofs.Same.{≋-refl}
 use Rattle.algebra.proofs.Difference.{difference, length-difference, difference-value, difference-zero}
 use Rattle.algebra.proofs.Weights.{weigh, weights, by-weights, weigh-times, value-weigh}
-
--- f divided by X − c: each entry is the value at c of what follows it
-unfoldable pub divided : ℕ → List ℕ → List ℕ
-divided c [] = []
-divided c (a ∷ []) = []
-divided c (a ∷ b ∷ f) = value (b ∷ f) c ∷ divided c (b ∷ f)
 
 pub length-divided : (c : ℕ) (f : List ℕ) → length (divided c f) ≡ pred (length f)
 unfolding divided

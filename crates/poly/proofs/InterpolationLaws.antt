@@ -35,7 +35,7 @@ pub words-differences : {p : ℕ} → 0 < p → (t : List ℕ) (y : ℕ) (v : Li
 unfolding differences
 words-differences h t y [] w = w
 words-differences h [] y (a ∷ v) w = w
-words-differences {p} h (d ∷ t) y (a ∷ v) w = words-cons (mod-lt ((a + (p - y)) * d) h) (words-differences h t y v (words-rest w))
+words-differences {p} h (d ∷ t) y (a ∷ v) w = words-cons (mod-lt _ h) (words-differences h t y v (words-rest w))
 
 difference-word : (p : ℕ) (t : List ℕ) (y : ℕ) (v : List ℕ) (i : ℕ) → i < length v → i < length t →
     getD (differences p t y v) i 0 ≡ (getD v i 0 + (p - y)) * getD t i 0 % p

@@ -5,3 +5,4 @@ pub mod FactorLaws
 pub mod ProductLaws
 pub mod InterpolationLaws
 pub mod DivisionLaws
+pub mod KernelLaws

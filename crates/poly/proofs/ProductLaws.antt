@@ -92,5 +92,6 @@ module _ {p : ℕ} (positive : 0 < p) (f g : List ℕ) (n : ℕ) where
 
   pub product-value : (s : ℕ) → value (within n (reduced p (product f g))) s ≈⟨ p ⟩ value f s * value g s
   product-value s =
-      rw (value-weigh (within n (reduced p (product f g))) s, weigh-within n (reduced p (product f g)) (λ k. s ^ k), ← value-weigh (reduced p (product f g)) s)
+      let words = reduced p (product f g) in
+      rw (value-weigh (within n words) s, weigh-within n words (λ k. s ^ k), ← value-weigh words s)
       (≈-trans (≋-value (≋-reduced p (product f g)) s) (≈-eq p (value-product f g s)))

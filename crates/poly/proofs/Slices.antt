@@ -8,7 +8,8 @@ use native.Mathlib.Numerals.{add-one}
 use native.Mathlib.Omega.{arith}
 use borrow.Rule.Slice.PartMut.{putMid}
 use lib.ListN.{length, take, drop, set, getD, length-drop, drop-of-length-le}
-use lib.Seq.{take-suc, take-suc-set, drop-set-lt, drop-cons, take-all, drop-drop, take-at, drop-at, set-at, getD-at, length-take-le, take-append-add, drop-append-add, getD-append-add}
+use lib.Seq.{take-suc, take-suc-set, drop-set-lt, drop-cons, take-all, drop-drop, take-at, drop-at, set-at, getD-at, length-take-le}
+use lib.Seq.{take-append-add, drop-append-add, getD-append-add}
 use Rattle.algebra.specs.Congruence.{_≈⟨_⟩_, negative}
 use Rattle.algebra.specs.Polynomial.{value}
 use Rattle.algebra.proofs.Congruence.{≈-refl, ≈-eq, ≈-trans, ≈-plus, ≈-product, ≈-reduced}

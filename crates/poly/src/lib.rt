@@ -3,13 +3,11 @@
 ghost use mathlib.Core.Path.{_≡_};
 ghost use Prim.Native.Nat.{_+_, _-_, _%_, _≤_, _<_};
 ghost use lib.ListN.{length};
-ghost use Rattle.algebra.specs.Polynomial.{value, product, reduced};
-ghost use Rattle.algebra.specs.Points.{target};
-ghost use Rattle.algebra.proofs.Roots.{divided};
+ghost use Rattle.algebra.specs.Polynomial.{value, divided, product, reduced};
+ghost use Rattle.algebra.specs.Points.{consecutive, target};
 ghost use Rattle.field.specs.Field.{p};
 ghost use Rattle.poly.specs.AddScaled.{scaled};
 ghost use Rattle.poly.specs.Factor.{timesFactor};
-ghost use Rattle.algebra.specs.Points.{consecutive};
 ghost use Rattle.poly.specs.Product.{addProduct, within};
 ghost use Rattle.poly.specs.Division.{division};
 

@@ -7,8 +7,7 @@ use native.Mathlib.Omega.{arith}
 use borrow.Author.Needs.{needs}
 use lib.ListN.{length, take, drop, getD, length-set, drop-of-length-le}
 use lib.Seq.{drop-cons, drop-length, take-length}
-use Rattle.algebra.specs.Polynomial.{value}
-use Rattle.algebra.proofs.Roots.{divided}
+use Rattle.algebra.specs.Polynomial.{value, divided}
 use Rattle.algebra.proofs.Congruence.{≈-refl, ≈-reduced}
 use Rattle.field.specs.Field.{p}
 use Rattle.poly.specs.AddScaled.{scaled}
@@ -70,7 +69,8 @@ loop-again c =
       search needs,
       simp length-set (search needs),
       word,
-      rw (so-far, back-set column j here done _) (ap (λ (r : List ℕ). take j column ++ r) (step column z (args .k) (args .x) j (omega arith) here word written)),
+      rw (so-far, back-set column j here done _)
+          (ap (λ (r : List ℕ). take j column ++ r) (step column z (args .k) (args .x) j (omega arith) here word written)),
     )
 
 returns : tie.Need-returns Inv-loop μ-loop

@@ -36,8 +36,11 @@ end k i src dst h = rw (drop-of-length-le src h) (take-append-drop i dst)
 loop-again : tie.Need-loop-again Inv-loop μ-loop
 loop-again c =
     let now = c .before .before .before .before .loop in
-    let args = c .before .before .before .before .before .before .before .args in
-    (search needs, simp length-set (search needs), step (args .k) (now .i) (args .src .now) (now .dst) (omega arith) (omega arith) (c .add-scaled .ensures) ∙ now .inv .2)
+    let args = c .before .before .before .before .before .before .before .args in (
+      search needs,
+      simp length-set (search needs),
+      step (args .k) (now .i) (args .src .now) (now .dst) (omega arith) (omega arith) (c .add-scaled .ensures) ∙ now .inv .2,
+    )
 
 same-length : tie.Need-same-length Inv-loop μ-loop
 same-length c = search needs

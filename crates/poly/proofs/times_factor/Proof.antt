@@ -29,7 +29,8 @@ step x i f {k} {v} h same e =
     let here : i < length f = omega arith in
     let next : suc i < length f = omega arith in
     rw (front-word f i v here, rest-kept f i v here, drop-cons f i 0, add-one, drop-cons f (suc i) 0, e, add-one)
-    (ap (λ (w : ℕ). take i f ++ w ∷ timesFactor p x (getD f (suc i) 0 ∷ drop (suc (suc i)) f)) (same-word (getD f i 0) same (≈-refl p (getD f (suc i) 0))))
+    (ap (λ (w : ℕ). take i f ++ w ∷ timesFactor p x (getD f (suc i) 0 ∷ drop (suc (suc i)) f))
+    (same-word (getD f i 0) same (≈-refl p (getD f (suc i) 0))))
 
 -- one word, or none, is done as it stands
 short : (x : ℕ) (f : List ℕ) → length f ≤ 1 → timesFactor p x f ≡ f

@@ -25,7 +25,8 @@ loop-again : tie.Need-loop-again Inv-loop μ-loop
 loop-again c =
     let now = c .before .before .before .loop in
     let e : now .i ≡ suc (now .i - 1) = omega arith in
-    (search needs, running p (c .before .before .before .before .before .args .f .now) _ (now .i - 1) (omega arith) (rw e at (now .inv .1)) (c .add-scaled .ensures))
+    let f = c .before .before .before .before .before .args .f .now in
+    (search needs, running p f _ (now .i - 1) (omega arith) (rw e at (now .inv .1)) (c .add-scaled .ensures))
 
 returns : tie.Need-returns Inv-loop μ-loop
 returns c =

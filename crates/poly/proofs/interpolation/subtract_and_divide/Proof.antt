@@ -44,11 +44,12 @@ loop-again : tie.Need-loop-again Inv-loop μ-loop
 loop-again c =
     let now = c .before .before .before .before .loop in
     let args = c .before .before .before .before .before .before .args in
+    let table = c .before .before .before .before .before .before .pre .3 in
     let here : now .i < length (now .v) = omega arith in (
       search needs,
       simp length-set (search needs),
       rest-kept (now .v) (now .i) _ here ∙ kept-rest (now .v) (args .v .now) (now .i) (now .inv .2),
-      step (args .inverses .now) (now .v) (args .y) (now .i) (omega (arith, c .before .before .before .before .before .before .pre .3 .entries)) here (c .times .ensures) ∙ now .inv .3,
+      step (args .inverses .now) (now .v) (args .y) (now .i) (omega (arith, table .entries)) here (c .times .ensures) ∙ now .inv .3,
     )
 
 returns : tie.Need-returns Inv-loop μ-loop
