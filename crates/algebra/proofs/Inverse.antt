@@ -14,7 +14,7 @@ module _ {p : ℕ} (prime : Prime p) where
   positive = omega (arith, prime .above-one)
 
   -- a number between 1 and p does not divide p
-  leaves : (a : ℕ) → 1 < a → a < p → 0 < p % a
+  pub leaves : (a : ℕ) → 1 < a → a < p → 0 < p % a
   leaves a above below = ⊎-elim
       (λ (h : p % a ≡ 0).
       let e : p / a * a ≡ p = omega (arith, mod-add-div' p a) in

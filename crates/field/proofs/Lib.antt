@@ -1,0 +1,2 @@
+pub mod PrimeField
+pub mod Every

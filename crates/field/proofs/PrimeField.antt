@@ -1,0 +1,27 @@
+-- p is prime, by trial division that the checker runs. So an inverse is the only one, and each record of
+-- specs/Field.antt admits one answer.
+use mathlib.Core.Path.{_≡_, sym, _∙_}
+use mathlib.Core.List.{List}
+use mathlib.Core.Logic.{⊎-elim}
+use Prim.Native.Nat.{ℕ}
+use native.Mathlib.Omega.{arith}
+use lib.Seq.{ext-getD}
+use Rattle.algebra.specs.Prime.{Prime}
+use Rattle.algebra.proofs.Congruence.{zero-or-not}
+use Rattle.algebra.proofs.PrimeTest.{isPrime, prime}
+use Rattle.algebra.proofs.Inverse.{inverse-unique}
+use Rattle.field.specs.Field.{p, InverseOrZero, InverseTable}
+
+pub p-prime : Prime p
+unfolding isPrime
+p-prime = prime p tt
+
+pub one-answer : {a r s : ℕ} → InverseOrZero a r → InverseOrZero a s → r ≡ s
+one-answer {a} h k = ⊎-elim
+    (λ is-zero. h .of-zero is-zero ∙ sym (k .of-zero is-zero))
+    (λ nonzero. inverse-unique p-prime (h .of-nonzero nonzero) (k .of-nonzero nonzero))
+    (zero-or-not p a)
+
+pub one-table : {t u : List ℕ} → InverseTable t → InverseTable u → t ≡ u
+one-table {t} {u} h k = ext-getD 0 t u (h .entries ∙ sym (k .entries))
+    (λ i below. inverse-unique p-prime (h .inverse i (omega arith)) (k .inverse i (omega arith)))
