@@ -1,0 +1,4 @@
+pub mod Circuit
+pub mod Reader
+pub mod Assignment
+pub mod Rows

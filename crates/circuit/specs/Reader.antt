@@ -1,0 +1,48 @@
+-- The verdict over circuit words: document 01, "Numbers a call gives back", numbers 1 to 5 and their order.
+-- Each line is one check with the number and place that it gives where it fails; the first that fails decides.
+use mathlib.Core.Bool.{Bool, _&&_, _||_}
+use mathlib.Core.List.{List}
+use Prim.Native.Nat.{ℕ, _-_}
+use lib.Dec.{leb, ltb, eqb}
+use lib.ListN.{length}
+use Rattle.outcome.specs.declared.Outcome.{Outcome}
+use Rattle.outcome.specs.Verdict.{require, within, _andThen_, first}
+use Rattle.field.specs.Field.{p}
+use Rattle.circuit.specs.Circuit.{rows, publics, columns, entries, entryAt, rowOf, columnOf, valueOf, section, sectionEnd, ending}
+
+-- entry e of a section stands above the one before it: by row, then column. The first has none before it.
+abbrev pub ascends : List ℕ → ℕ → ℕ → Bool
+ascends c s e =
+    eqb e 0
+    || ltb (rowOf c s (e - 1)) (rowOf c s e)
+    || (eqb (rowOf c s (e - 1)) (rowOf c s e) && ltb (columnOf c s (e - 1)) (columnOf c s e))
+
+-- each entry by 3, 4, 5, at the index of its first word
+unfoldable pub entryVerdict : List ℕ → ℕ → ℕ → Outcome
+entryVerdict c s e =
+    require (within 1 (rowOf c s e) (rows c)) 3 (entryAt s e)
+    andThen require (within 1 (columnOf c s e) (columns c)) 3 (entryAt s e)
+    andThen require (within 1 (valueOf c s e) (p - 1)) 4 (entryAt s e)
+    andThen require (ascends c s e) 5 (entryAt s e)
+
+-- a section: the count missing, the count too large, entries not all there, then entry by entry
+unfoldable pub sectionVerdict : List ℕ → ℕ → Outcome
+sectionVerdict c s =
+    require (ltb s (length c)) 1 (length c)
+    andThen require (leb (entries c s) 1024) 2 s
+    andThen require (leb (sectionEnd c s) (length c)) 1 (length c)
+    andThen first (entryVerdict c s) (entries c s)
+
+-- words that begin with a circuit and may go on: fewer than 3 words, then m, n, q in that order (they stand as m, q, n),
+-- then sections A, B, C
+unfoldable pub prefixVerdict : List ℕ → Outcome
+prefixVerdict c =
+    require (leb 3 (length c)) 1 (length c)
+    andThen require (within 1 (rows c) 256) 2 0
+    andThen require (within 1 (columns c) 256) 2 2
+    andThen require (within 1 (publics c) (columns c)) 2 1
+    andThen first (λ matrix. sectionVerdict c (section c matrix)) 3
+
+-- words that are a circuit and nothing else: left-over words come last
+unfoldable pub circuitVerdict : List ℕ → Outcome
+circuitVerdict c = prefixVerdict c andThen require (eqb (ending c) (length c)) 1 (length c)

@@ -1,0 +1,1 @@
+// Circuits and assignments: reading, refusing and meaning.
