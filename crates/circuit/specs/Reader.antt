@@ -10,12 +10,13 @@ use Rattle.outcome.specs.Verdict.{require, within, _andThen_, first}
 use Rattle.field.specs.Field.{p}
 use Rattle.circuit.specs.Circuit.{rows, publics, columns, entries, entryAt, rowOf, columnOf, valueOf, section, sectionEnd, ending}
 
--- entry e of a section stands above the one before it: by row, then column. The first has none before it.
+-- a row and a column stand above others: by row, then column
+abbrev pub above : ℕ → ℕ → ℕ → ℕ → Bool
+above row column rowBefore columnBefore = ltb rowBefore row || (eqb rowBefore row && ltb columnBefore column)
+
+-- entry e of a section stands above the one before it; the first has none before it
 abbrev pub ascends : List ℕ → ℕ → ℕ → Bool
-ascends c s e =
-    eqb e 0
-    || ltb (rowOf c s (e - 1)) (rowOf c s e)
-    || (eqb (rowOf c s (e - 1)) (rowOf c s e) && ltb (columnOf c s (e - 1)) (columnOf c s e))
+ascends c s e = eqb e 0 || above (rowOf c s e) (columnOf c s e) (rowOf c s (e - 1)) (columnOf c s (e - 1))
 
 -- each entry by 3, 4, 5, at the index of its first word
 unfoldable pub entryVerdict : List ℕ → ℕ → ℕ → Outcome

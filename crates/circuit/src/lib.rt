@@ -1,1 +1,2 @@
-// Circuits and assignments: reading, refusing and meaning.
+// Circuits and assignments: reading, refusing and meaning (document 01, "Circuit words" and "Assignment words").
+pub mod reader;

@@ -1,13 +1,15 @@
 -- The laws of checks in a row: what is accepted passes every check, and a refusal is the first that fails.
-use mathlib.Core.Bool.{Bool, true, false}
+use mathlib.Core.Bool.{Bool, true, false, _&&_}
 use mathlib.Core.List.{List}
 use mathlib.Core.Logic.{_⊎_, inl, inr, ⊎-elim}
-use mathlib.Core.Path.{_≡_, refl, _∙_}
+use mathlib.Core.Path.{_≡_, refl, _∙_, ap}
 use Prim.Native.Nat.{ℕ, zero, suc, _<_}
 use native.Mathlib.Nat.{eq-zero-or-pos, eq-or-lt-of-le}
 use native.Mathlib.Omega.{arith}
+use borrow.Author.Tests.{le-leb, leb-true}
+use lib.Dec.{leb}
 use Rattle.outcome.specs.declared.Outcome.{Outcome}
-use Rattle.outcome.specs.Verdict.{fine, outcome, Accepted, Refused, require, _andThen_, first, written}
+use Rattle.outcome.specs.Verdict.{fine, outcome, Accepted, Refused, require, Within, within, _andThen_, first, written}
 
 pub accepted-or-refused : (o : Outcome) → Accepted o ⊎ Refused o
 accepted-or-refused o =
@@ -16,6 +18,14 @@ accepted-or-refused o =
 
 pub not-both : {o : Outcome} → Accepted o → Refused o → ⊥
 not-both a r = omega (arith, a .is-zero, r .is-positive)
+
+-- what a test of a returned number says of the verdict
+
+pub is-accepted : {o v : Outcome} → o ≡ v → o .number ≡ 0 → Accepted v
+is-accepted {o} e h = let a : Accepted o = record { is-zero = h } in rw e at a
+
+pub is-refused : {o v : Outcome} → o ≡ v → (o .number ≡ 0 → ⊥) → Refused v
+is-refused {o} e h = let r : Refused o = record { is-positive = omega arith } in rw e at r
 
 choice : {A : Type 0} (n : ℕ) (x y : A) → n ≡ 0 → elim n as (λ n. A) [ zero ↦ x | suc k ↦ y ] ≡ x
 choice zero x y h = refl
@@ -68,6 +78,18 @@ pub require-accepted : (t : Bool) (number place : ℕ) → 0 < number → Accept
 unfolding require
 require-accepted true number place l h = refl
 require-accepted false number place l h = absurd (omega (arith, h .is-zero))
+
+pub within-true : {low x high : ℕ} → Within low x high → within low x high ≡ true
+within-true {low} {x} {high} h = rw (le-leb low x (h .at-least), le-leb x high (h .at-most))
+
+pub true-within : (low x high : ℕ) → within low x high ≡ true → Within low x high
+true-within low x high h =
+    let parts = both (leb low x) h in
+    record { at-least = leb-true low x (parts .0); at-most = leb-true x high (parts .1) }
+  where
+    both : (s : Bool) {t : Bool} → s && t ≡ true → (s ≡ true) × (t ≡ true)
+    both true h = (refl, h)
+    both false h = absurd (omega (arith, ap {B = ℕ} (elim [ true ↦ 1 | false ↦ 0 ]) h))
 
 -- the first fault of many
 

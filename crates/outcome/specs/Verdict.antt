@@ -3,7 +3,7 @@
 use mathlib.Core.Bool.{Bool, true, false, _&&_}
 use mathlib.Core.List.{List}
 use mathlib.Core.Path.{_≡_}
-use Prim.Native.Nat.{ℕ, zero, suc, _<_}
+use Prim.Native.Nat.{ℕ, zero, suc, _<_, _≤_}
 use lib.Dec.{leb}
 use Rattle.outcome.specs.declared.Outcome.{Outcome}
 
@@ -28,6 +28,10 @@ require false number place = outcome number place
 -- low to high, both included
 abbrev pub within : ℕ → ℕ → ℕ → Bool
 within low x high = leb low x && leb x high
+
+pub record Within (low x high : ℕ) : Type 0 where
+  pub at-least : low ≤ x
+  pub at-most : x ≤ high
 
 infixr 20 _andThen_
 -- a, where it is a refusal; else b

@@ -1,0 +1,3 @@
+pub mod Proper
+pub mod Formed
+pub mod Sections
