@@ -9,7 +9,7 @@ use Rattle.outcome.specs.declared.Outcome.{Outcome}
 use Rattle.outcome.specs.Verdict.{Accepted, require, _andThen_}
 use Rattle.outcome.proofs.Verdict.{accepted-both, accepted-parts, accepted-require, require-accepted, accepted-first, accepted-each, within-true, true-within}
 use Rattle.circuit.specs.Circuit.{entries, section}
-use Rattle.circuit.specs.Reader.{entryVerdict, sectionVerdict, prefixVerdict, circuitVerdict}
+use Rattle.circuit.specs.Reader.{rangesVerdict, entryVerdict, sectionVerdict, countsVerdict, prefixVerdict, circuitVerdict}
 use Rattle.circuit.specs.WellFormed.{EntryFormed, SectionFormed, Formed, WellFormed}
 
 -- one check taken off an accepted verdict: its test is true, and the rest is accepted
@@ -18,23 +18,24 @@ taken : (t : Bool) (number place : ℕ) {rest : Outcome} → 0 < number → Acce
 taken t number place l h = let parts = accepted-parts h in (require-accepted t number place l (parts .0), parts .1)
 
 pub entry-formed : (c : List ℕ) (s e : ℕ) → Accepted (entryVerdict c s e) → EntryFormed c s e
-unfolding entryVerdict
+unfolding entryVerdict rangesVerdict
 entry-formed c s e h =
-    let row = taken _ _ _ (lit< tt) h in
+    let parts = accepted-parts h in
+    let row = taken _ _ _ (lit< tt) (parts .0) in
     let column = taken _ _ _ (lit< tt) (row .1) in
-    let value = taken _ _ _ (lit< tt) (column .1) in
     record {
       row = true-within _ _ _ (row .0);
       column = true-within _ _ _ (column .0);
-      value = true-within _ _ _ (value .0);
-      ascending = require-accepted _ _ _ (lit< tt) (value .1);
+      value = true-within _ _ _ (require-accepted _ _ _ (lit< tt) (column .1));
+      ascending = require-accepted _ _ _ (lit< tt) (parts .1);
     }
 
 pub entry-accepted : {c : List ℕ} {s e : ℕ} → EntryFormed c s e → Accepted (entryVerdict c s e)
-unfolding entryVerdict
-entry-accepted f = accepted-both (accepted-require _ _ (within-true (f .row)))
-    (accepted-both (accepted-require _ _ (within-true (f .column)))
-    (accepted-both (accepted-require _ _ (within-true (f .value))) (accepted-require _ _ (f .ascending))))
+unfolding entryVerdict rangesVerdict
+entry-accepted f = accepted-both
+    (accepted-both (accepted-require _ _ (within-true (f .row)))
+    (accepted-both (accepted-require _ _ (within-true (f .column))) (accepted-require _ _ (within-true (f .value)))))
+    (accepted-require _ _ (f .ascending))
 
 pub section-formed : (c : List ℕ) (s : ℕ) → Accepted (sectionVerdict c s) → SectionFormed c s
 unfolding sectionVerdict
@@ -60,27 +61,27 @@ abbrev sections : List ℕ → ℕ → Outcome
 sections c matrix = sectionVerdict c (section c matrix)
 
 pub prefix-formed : (c : List ℕ) → Accepted (prefixVerdict c) → Formed c
-unfolding prefixVerdict
+unfolding prefixVerdict countsVerdict
 prefix-formed c h =
     let counts = taken _ _ _ (lit< tt) h in
-    let row-count = taken _ _ _ (lit< tt) (counts .1) in
+    let parts = accepted-parts (counts .1) in
+    let row-count = taken _ _ _ (lit< tt) (parts .0) in
     let column-count = taken _ _ _ (lit< tt) (row-count .1) in
-    let public-count = taken _ _ _ (lit< tt) (column-count .1) in
     record {
       counts = leb-true _ _ (counts .0);
       row-count = true-within _ _ _ (row-count .0);
       column-count = true-within _ _ _ (column-count .0);
-      public-count = true-within _ _ _ (public-count .0);
-      matrices = λ k l. section-formed c (section c k) (accepted-each (sections c) 3 (public-count .1) k l);
+      public-count = true-within _ _ _ (require-accepted _ _ _ (lit< tt) (column-count .1));
+      matrices = λ k l. section-formed c (section c k) (accepted-each (sections c) 3 (parts .1) k l);
     }
 
 pub prefix-accepted : {c : List ℕ} → Formed c → Accepted (prefixVerdict c)
-unfolding prefixVerdict
+unfolding prefixVerdict countsVerdict
 prefix-accepted {c} f = accepted-both (accepted-require _ _ (le-leb _ _ (f .counts)))
+    (accepted-both
     (accepted-both (accepted-require _ _ (within-true (f .row-count)))
-    (accepted-both (accepted-require _ _ (within-true (f .column-count)))
-    (accepted-both (accepted-require _ _ (within-true (f .public-count)))
-    (accepted-first (sections c) 3 (λ k l. section-accepted (f .matrices k l))))))
+    (accepted-both (accepted-require _ _ (within-true (f .column-count))) (accepted-require _ _ (within-true (f .public-count)))))
+    (accepted-first (sections c) 3 (λ k l. section-accepted (f .matrices k l))))
 
 pub circuit-formed : (c : List ℕ) → Accepted (circuitVerdict c) → WellFormed c
 unfolding circuitVerdict

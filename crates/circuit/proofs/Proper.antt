@@ -4,12 +4,12 @@ use Prim.Native.Nat.{ℕ}
 use lib.Dec.{lit<}
 use Rattle.outcome.proofs.Verdict.{Proper, proper-require, proper-andThen, proper-first}
 use Rattle.circuit.specs.Circuit.{entries, section}
-use Rattle.circuit.specs.Reader.{entryVerdict, sectionVerdict, prefixVerdict, circuitVerdict}
+use Rattle.circuit.specs.Reader.{rangesVerdict, entryVerdict, sectionVerdict, countsVerdict, prefixVerdict, circuitVerdict}
 
 ruleset proper = (proper-require, proper-andThen, lit<, tt)
 
 pub proper-entry : (c : List ℕ) (s e : ℕ) → Proper (entryVerdict c s e)
-unfolding entryVerdict
+unfolding entryVerdict rangesVerdict
 proper-entry c s e = search proper depth 16
 
 pub proper-section : (c : List ℕ) (s : ℕ) → Proper (sectionVerdict c s)
@@ -18,7 +18,7 @@ proper-section c s =
     let each = proper-first (entryVerdict c s) (entries c s) (λ e l. proper-entry c s e) in search proper depth 16
 
 pub proper-prefix : (c : List ℕ) → Proper (prefixVerdict c)
-unfolding prefixVerdict
+unfolding prefixVerdict countsVerdict
 proper-prefix c =
     let each = proper-first (λ matrix. sectionVerdict c (section c matrix)) 3 (λ k l. proper-section c (section c k)) in
     search proper depth 16

@@ -18,12 +18,17 @@ above row column rowBefore columnBefore = ltb rowBefore row || (eqb rowBefore ro
 abbrev pub ascends : List ℕ → ℕ → ℕ → Bool
 ascends c s e = eqb e 0 || above (rowOf c s e) (columnOf c s e) (rowOf c s (e - 1)) (columnOf c s (e - 1))
 
--- each entry by 3, 4, 5, at the index of its first word
+-- row and column by 3, then the value by 4, at the index of the entry's first word
+unfoldable pub rangesVerdict : ℕ → ℕ → ℕ → ℕ → ℕ → ℕ → Outcome
+rangesVerdict m n row column value at =
+    require (within 1 row m) 3 at
+    andThen require (within 1 column n) 3 at
+    andThen require (within 1 value (p - 1)) 4 at
+
+-- each entry by 3, 4, 5
 unfoldable pub entryVerdict : List ℕ → ℕ → ℕ → Outcome
 entryVerdict c s e =
-    require (within 1 (rowOf c s e) (rows c)) 3 (entryAt s e)
-    andThen require (within 1 (columnOf c s e) (columns c)) 3 (entryAt s e)
-    andThen require (within 1 (valueOf c s e) (p - 1)) 4 (entryAt s e)
+    rangesVerdict (rows c) (columns c) (rowOf c s e) (columnOf c s e) (valueOf c s e) (entryAt s e)
     andThen require (ascends c s e) 5 (entryAt s e)
 
 -- a section: the count missing, the count too large, entries not all there, then entry by entry
@@ -34,14 +39,18 @@ sectionVerdict c s =
     andThen require (leb (sectionEnd c s) (length c)) 1 (length c)
     andThen first (entryVerdict c s) (entries c s)
 
--- words that begin with a circuit and may go on: fewer than 3 words, then m, n, q in that order (they stand as m, q, n),
--- then sections A, B, C
+-- m, n, q in that order; they stand as m, q, n
+unfoldable pub countsVerdict : ℕ → ℕ → ℕ → Outcome
+countsVerdict m q n =
+    require (within 1 m 256) 2 0
+    andThen require (within 1 n 256) 2 2
+    andThen require (within 1 q n) 2 1
+
+-- words that begin with a circuit and may go on: fewer than 3 words, the counts, then sections A, B, C
 unfoldable pub prefixVerdict : List ℕ → Outcome
 prefixVerdict c =
     require (leb 3 (length c)) 1 (length c)
-    andThen require (within 1 (rows c) 256) 2 0
-    andThen require (within 1 (columns c) 256) 2 2
-    andThen require (within 1 (publics c) (columns c)) 2 1
+    andThen countsVerdict (rows c) (publics c) (columns c)
     andThen first (λ matrix. sectionVerdict c (section c matrix)) 3
 
 -- words that are a circuit and nothing else: left-over words come last

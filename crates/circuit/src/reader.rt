@@ -4,7 +4,7 @@ ghost use Prim.Native.Nat.{_+_, _≤_};
 ghost use lib.ListN.{length};
 ghost use Rattle.outcome.specs.Verdict.{first, Accepted};
 ghost use Rattle.circuit.specs.Circuit.{entryAt, section};
-ghost use Rattle.circuit.specs.Reader.{entryVerdict, sectionVerdict, prefixVerdict, circuitVerdict};
+ghost use Rattle.circuit.specs.Reader.{rangesVerdict, entryVerdict, sectionVerdict, countsVerdict, prefixVerdict, circuitVerdict};
 use outcome::Outcome;
 
 const MOST_ROWS: u32 = 256;
@@ -12,6 +12,51 @@ const MOST_ROWS: u32 = 256;
 const MOST_COLUMNS: u32 = 256;
 
 const MOST_ENTRIES: usize = 1024;
+
+fn ranges_verdict(m: u32, n: u32, row: u32, column: u32, value: u32, at: usize) -> Outcome
+    ensures { λ r. ⌜ r ≡ rangesVerdict m n row column value at ⌝ }
+{
+    if row < 1 {
+        return Outcome {
+            number: 3,
+            place: at,
+        };
+    }
+    if m < row {
+        return Outcome {
+            number: 3,
+            place: at,
+        };
+    }
+    if column < 1 {
+        return Outcome {
+            number: 3,
+            place: at,
+        };
+    }
+    if n < column {
+        return Outcome {
+            number: 3,
+            place: at,
+        };
+    }
+    if value < 1 {
+        return Outcome {
+            number: 4,
+            place: at,
+        };
+    }
+    if field::MINUS_ONE < value {
+        return Outcome {
+            number: 4,
+            place: at,
+        };
+    }
+    Outcome {
+        number: 0,
+        place: 0,
+    }
+}
 
 fn above(row: u32, column: u32, row_before: u32, column_before: u32) -> bool
     ensures { λ r. ⌜ r ≡ Rattle.circuit.specs.Reader.above row column «row_before» «column_before» ⌝ }
@@ -44,41 +89,16 @@ fn entry_verdict(words: &[u32], start: usize, e: usize) -> Outcome
     ensures { λ r. ⌜ r ≡ entryVerdict (now (words .entry)) start e ⌝ }
 {
     let at = start + 1 + 3 * e;
-    if words[at] < 1 {
-        return Outcome {
-            number: 3,
-            place: at,
-        };
-    }
-    if words[0] < words[at] {
-        return Outcome {
-            number: 3,
-            place: at,
-        };
-    }
-    if words[at + 1] < 1 {
-        return Outcome {
-            number: 3,
-            place: at,
-        };
-    }
-    if words[2] < words[at + 1] {
-        return Outcome {
-            number: 3,
-            place: at,
-        };
-    }
-    if words[at + 2] < 1 {
-        return Outcome {
-            number: 4,
-            place: at,
-        };
-    }
-    if field::MINUS_ONE < words[at + 2] {
-        return Outcome {
-            number: 4,
-            place: at,
-        };
+    let ranges = ranges_verdict(
+        words[0],
+        words[2],
+        words[at],
+        words[at + 1],
+        words[at + 2],
+        at,
+    );
+    if ranges.number != 0 {
+        return ranges;
     }
     if ascends(words, start, e) {
         return Outcome {
@@ -139,6 +159,51 @@ fn sections_verdict(words: &[u32]) -> Outcome
     }
 }
 
+fn counts_verdict(m: u32, q: u32, n: u32) -> Outcome
+    ensures { λ r. ⌜ r ≡ countsVerdict m q n ⌝ }
+{
+    if m < 1 {
+        return Outcome {
+            number: 2,
+            place: 0,
+        };
+    }
+    if MOST_ROWS < m {
+        return Outcome {
+            number: 2,
+            place: 0,
+        };
+    }
+    if n < 1 {
+        return Outcome {
+            number: 2,
+            place: 2,
+        };
+    }
+    if MOST_COLUMNS < n {
+        return Outcome {
+            number: 2,
+            place: 2,
+        };
+    }
+    if q < 1 {
+        return Outcome {
+            number: 2,
+            place: 1,
+        };
+    }
+    if n < q {
+        return Outcome {
+            number: 2,
+            place: 1,
+        };
+    }
+    Outcome {
+        number: 0,
+        place: 0,
+    }
+}
+
 // Words that begin with a circuit; what follows it is the caller's to judge.
 pub fn prefix_verdict(words: &[u32]) -> Outcome
     ensures { λ r. ⌜ r ≡ prefixVerdict (now (words .entry)) ⌝ }
@@ -149,41 +214,9 @@ pub fn prefix_verdict(words: &[u32]) -> Outcome
             place: words.len(),
         };
     }
-    if words[0] < 1 {
-        return Outcome {
-            number: 2,
-            place: 0,
-        };
-    }
-    if MOST_ROWS < words[0] {
-        return Outcome {
-            number: 2,
-            place: 0,
-        };
-    }
-    if words[2] < 1 {
-        return Outcome {
-            number: 2,
-            place: 2,
-        };
-    }
-    if MOST_COLUMNS < words[2] {
-        return Outcome {
-            number: 2,
-            place: 2,
-        };
-    }
-    if words[1] < 1 {
-        return Outcome {
-            number: 2,
-            place: 1,
-        };
-    }
-    if words[2] < words[1] {
-        return Outcome {
-            number: 2,
-            place: 1,
-        };
+    let counts = counts_verdict(words[0], words[1], words[2]);
+    if counts.number != 0 {
+        return counts;
     }
     sections_verdict(words)
 }
