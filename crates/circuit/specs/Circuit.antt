@@ -1,6 +1,6 @@
 -- What circuit words mean: counts, sections, entries, and the coefficient of a matrix at a row and a column.
 -- Document 01, "Circuit words". Nothing here asks whether the words are well formed: specs/Reader.antt does.
-use mathlib.Core.Bool.{true, false, _&&_}
+use mathlib.Core.Bool.{Bool, true, false, _&&_}
 use mathlib.Core.List.{List, [], _∷_}
 use Prim.Native.Nat.{ℕ, zero, suc, _+_, _*_}
 use lib.Dec.{eqb}
@@ -59,11 +59,14 @@ section c (suc matrix) = sectionEnd c (section c matrix)
 abbrev pub ending : List ℕ → ℕ
 ending c = section c 3
 
+-- entry e is listed at row i, column j
+abbrev pub isAt : List ℕ → ℕ → ℕ → ℕ → ℕ → Bool
+isAt c s i j e = eqb (rowOf c s e) i && eqb (columnOf c s e) j
+
 -- among the first k entries of a section: the value listed at row i, column j, or 0 where none is
 unfoldable pub listed : List ℕ → ℕ → ℕ → ℕ → ℕ → ℕ
 listed c s i j zero = 0
-listed c s i j (suc e) =
-    elim (eqb (rowOf c s e) i && eqb (columnOf c s e) j) [ true ↦ valueOf c s e | false ↦ listed c s i j e ]
+listed c s i j (suc e) = elim (isAt c s i j e) [ true ↦ valueOf c s e | false ↦ listed c s i j e ]
 
 -- the coefficient of matrix 0, 1 or 2 at row i, column j, both counted from 1
 unfoldable pub coef : List ℕ → ℕ → ℕ → ℕ → ℕ

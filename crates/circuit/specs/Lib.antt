@@ -1,5 +1,4 @@
 pub mod Circuit
 pub mod Reader
-pub mod Assignment
-pub mod Rows
 pub mod WellFormed
+pub mod Totals
