@@ -1,21 +1,14 @@
 -- A verdict accepts exactly where the words are well formed: each check is one field of the record.
-use mathlib.Core.Bool.{Bool, true}
 use mathlib.Core.List.{List}
-use mathlib.Core.Path.{_≡_}
-use Prim.Native.Nat.{ℕ, _<_}
+use Prim.Native.Nat.{ℕ}
 use borrow.Author.Tests.{le-leb, lt-ltb, eq-eqb, leb-true, ltb-true, eqb-true}
 use lib.Dec.{lit<}
 use Rattle.outcome.specs.declared.Outcome.{Outcome}
-use Rattle.outcome.specs.Verdict.{Accepted, require, _andThen_}
-use Rattle.outcome.proofs.Verdict.{accepted-both, accepted-parts, accepted-require, require-accepted, accepted-first, accepted-each, within-true, true-within}
+use Rattle.outcome.specs.Verdict.{Accepted}
+use Rattle.outcome.proofs.Verdict.{accepted-both, accepted-parts, accepted-require, require-accepted, taken, accepted-first, accepted-each, within-true, true-within}
 use Rattle.circuit.specs.Circuit.{entries, section}
 use Rattle.circuit.specs.Reader.{rangesVerdict, entryVerdict, sectionVerdict, countsVerdict, prefixVerdict, circuitVerdict}
 use Rattle.circuit.specs.WellFormed.{EntryFormed, SectionFormed, Formed, WellFormed}
-
--- one check taken off an accepted verdict: its test is true, and the rest is accepted
-taken : (t : Bool) (number place : ℕ) {rest : Outcome} → 0 < number → Accepted (require t number place andThen rest) →
-    (t ≡ true) × Accepted rest
-taken t number place l h = let parts = accepted-parts h in (require-accepted t number place l (parts .0), parts .1)
 
 pub entry-formed : (c : List ℕ) (s e : ℕ) → Accepted (entryVerdict c s e) → EntryFormed c s e
 unfolding entryVerdict rangesVerdict
@@ -92,3 +85,7 @@ circuit-formed c h =
 pub circuit-accepted : {c : List ℕ} → WellFormed c → Accepted (circuitVerdict c)
 unfolding circuitVerdict
 circuit-accepted f = accepted-both (prefix-accepted (f .formed)) (accepted-require _ _ (eq-eqb _ _ (f .whole)))
+
+pub circuit-prefix : (c : List ℕ) → Accepted (circuitVerdict c) → Accepted (prefixVerdict c)
+unfolding circuitVerdict
+circuit-prefix c h = accepted-parts h .0

@@ -2,9 +2,10 @@
 ghost use mathlib.Core.Path.{_≡_};
 ghost use Prim.Native.Nat.{_+_, _≤_};
 ghost use lib.ListN.{length};
-ghost use Rattle.outcome.specs.Verdict.{first, Accepted};
+ghost use Rattle.outcome.specs.Verdict.{first};
 ghost use Rattle.circuit.specs.Circuit.{entryAt, section};
 ghost use Rattle.circuit.specs.Reader.{rangesVerdict, entryVerdict, sectionVerdict, countsVerdict, prefixVerdict, circuitVerdict};
+ghost use Rattle.circuit.specs.WellFormed.{Formed};
 use outcome::Outcome;
 
 const MOST_ROWS: u32 = 256;
@@ -223,7 +224,7 @@ pub fn prefix_verdict(words: &[u32]) -> Outcome
 
 // The index of the count of entries of matrix 0, 1 or 2; for 3 the index where the circuit ends.
 pub fn section_start(words: &[u32], matrix: usize) -> usize
-    requires { ⌜ Accepted (prefixVerdict (now words)) × (matrix ≤ 3) ⌝ }
+    requires { ⌜ Formed (now words) × (matrix ≤ 3) ⌝ }
     ensures { λ r. ⌜ r ≡ section (now (words .entry)) matrix ⌝ }
 {
     let mut start = 3;

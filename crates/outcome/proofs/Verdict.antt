@@ -79,6 +79,11 @@ unfolding require
 require-accepted true number place l h = refl
 require-accepted false number place l h = absurd (omega (arith, h .is-zero))
 
+-- one check taken off an accepted verdict: its test is true, and the rest is accepted
+pub taken : (t : Bool) (number place : ℕ) {rest : Outcome} → 0 < number → Accepted (require t number place andThen rest) →
+    (t ≡ true) × Accepted rest
+taken t number place l h = let parts = accepted-parts h in (require-accepted t number place l (parts .0), parts .1)
+
 pub within-true : {low x high : ℕ} → Within low x high → within low x high ≡ true
 within-true {low} {x} {high} h = rw (le-leb low x (h .at-least), le-leb x high (h .at-most))
 

@@ -1,6 +1,7 @@
 -- A circuit's words begin with a circuit, and end where it ends.
 use Rattle.outcome.proofs.Chain.{calls}
 use Rattle.outcome.proofs.Verdict.{is-accepted}
+use Rattle.circuit.proofs.Formed.{prefix-formed}
 use Rattle.circuit.specs.Reader.{circuitVerdict}
 use borrow.Author.Needs.{needs}
 use Rattle.circuit.proofs.reader.circuit_verdict.Statement.{statement}
@@ -11,7 +12,7 @@ unfolding circuitVerdict
 returns c = search calls depth 16
 
 section-start-requires : tie.Need-section-start-requires
-section-start-requires c κs = (is-accepted (c .before .before .prefix-verdict .ensures) (c .if1 .left), search needs)
+section-start-requires c κs = (prefix-formed _ (is-accepted (c .before .before .prefix-verdict .ensures) (c .if1 .left)), search needs)
 
 returns-2 : tie.Need-returns-2
 unfolding circuitVerdict

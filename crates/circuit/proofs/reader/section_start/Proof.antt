@@ -8,7 +8,6 @@ use borrow.Author.Needs.{needs}
 use Rattle.circuit.specs.Circuit.{section}
 use Rattle.circuit.specs.WellFormed.{SectionFormed}
 use Rattle.circuit.proofs.Sections.{section-next}
-use Rattle.circuit.proofs.Formed.{prefix-formed}
 use Rattle.circuit.proofs.reader.section_start.Statement.{statement}
 use Rattle.circuit.proofs.reader.section_start.Tie as tie
 
@@ -25,7 +24,7 @@ abbrev μ-loop : tie.MeasureT-loop
 formed : (c : tie.In-loop Inv-loop μ-loop) → SectionFormed (c .before .before .args .words .now) (c .before .loop .start)
 formed c =
     let entry = c .before .before in
-    rw (c .before .loop .inv .here) (prefix-formed (entry .args .words .now) (entry .pre .0) .matrices (c .before .loop .k) (search needs))
+    rw (c .before .loop .inv .here) (entry .pre .0 .matrices (c .before .loop .k) (search needs))
 
 loop-holds : tie.Need-loop-holds Inv-loop μ-loop
 unfolding section
