@@ -79,6 +79,11 @@ unfolding require
 require-accepted true number place l h = refl
 require-accepted false number place l h = absurd (omega (arith, h .is-zero))
 
+pub require-refused : (t : Bool) (number place : ℕ) → Refused (require t number place) → require t number place ≡ outcome number place
+unfolding require
+require-refused true number place r = absurd (not-both accepted-fine r)
+require-refused false number place r = refl
+
 -- one check taken off an accepted verdict: its test is true, and the rest is accepted
 pub taken : (t : Bool) (number place : ℕ) {rest : Outcome} → 0 < number → Accepted (require t number place andThen rest) →
     (t ≡ true) × Accepted rest
@@ -110,6 +115,11 @@ pub accepted-first : (f : ℕ → Outcome) (k : ℕ) → ((i : ℕ) → i < k �
 unfolding first
 accepted-first f zero h = record { is-zero = refl }
 accepted-first f (suc k) h = accepted-both (accepted-first f k (λ i l. h i (omega arith))) (h k (omega arith))
+
+pub first-same : (f g : ℕ → Outcome) (k : ℕ) → ((i : ℕ) → i < k → f i ≡ g i) → first f k ≡ first g k
+unfolding first
+first-same f g zero h = refl
+first-same f g (suc k) h = rw (first-same f g k (λ i l. h i (omega arith)), h k (omega arith))
 
 -- what is found first decides
 pub first-refused : (f : ℕ → Outcome) (i k : ℕ) → Accepted (first f i) → Refused (f i) → i < k → first f k ≡ f i
