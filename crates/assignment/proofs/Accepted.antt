@@ -1,0 +1,97 @@
+-- The verdicts accept exactly well formed assignments and public sections, and then are 0 at place 0.
+use mathlib.Core.List.{List}
+use Prim.Native.Nat.{ℕ, _-_}
+use native.Mathlib.Omega.{arith}
+use borrow.Author.Tests.{eq-eqb, eqb-true, le-leb, leb-true}
+use lib.Dec.{leb, lit<}
+use lib.ListN.{length}
+use Rattle.outcome.specs.declared.Outcome.{Outcome}
+use Rattle.outcome.specs.Verdict.{Accepted, require}
+use Rattle.outcome.proofs.Verdict.{accepted-both, accepted-parts, accepted-require, require-accepted, accepted-first, accepted-each, taken, Proper, proper-require, proper-andThen, proper-first}
+use Rattle.field.specs.Field.{p}
+use Rattle.circuit.specs.Circuit.{word}
+use Rattle.circuit.specs.WellFormed.{WellFormed}
+use Rattle.circuit.proofs.Formed.{circuit-formed}
+use Rattle.assignment.specs.Assignment.{wordsVerdict, valuesVerdict, assignmentVerdict, publicVerdict, circuitThenAssignment, circuitThenPublic}
+use Rattle.assignment.specs.WellFormed.{ValuesFormed, AssignmentFormed, PublicFormed}
+
+abbrev pub each : List ℕ → ℕ → Outcome
+each a i = require (leb (word a i) (p - 1)) 7 i
+
+pub values-formed : (a : List ℕ) → Accepted (valuesVerdict a) → ValuesFormed a
+unfolding valuesVerdict wordsVerdict
+values-formed a h =
+    let one = taken _ _ _ (lit< tt) h in
+    record {
+      one = eqb-true _ _ (one .0);
+      words = record {
+        below = λ i l. omega (arith, leb-true (word a i) (p - 1) (require-accepted _ _ _ (lit< tt) (accepted-each (each a) (length a) (one .1) i l)));
+      };
+    }
+
+pub values-accepted : {a : List ℕ} → ValuesFormed a → Accepted (valuesVerdict a)
+unfolding valuesVerdict wordsVerdict
+values-accepted {a} f = accepted-both (accepted-require _ _ (eq-eqb _ _ (f .one)))
+    (accepted-first (each a) (length a) (λ i l. accepted-require _ _ (le-leb (word a i) (p - 1) (omega (arith, f .words .below i l)))))
+
+pub assignment-formed : (c a : List ℕ) → Accepted (assignmentVerdict c a) → AssignmentFormed c a
+unfolding assignmentVerdict
+assignment-formed c a h =
+    let size = taken _ _ _ (lit< tt) h in
+    let public-count = taken _ _ _ (lit< tt) (size .1) in
+    let private-count = taken _ _ _ (lit< tt) (public-count .1) in
+    record {
+      size = eqb-true _ _ (size .0);
+      public-count = eqb-true _ _ (public-count .0);
+      private-count = eqb-true _ _ (private-count .0);
+      values = values-formed a (private-count .1);
+    }
+
+pub assignment-accepted : {c a : List ℕ} → AssignmentFormed c a → Accepted (assignmentVerdict c a)
+unfolding assignmentVerdict
+assignment-accepted f = accepted-both (accepted-require _ _ (eq-eqb _ _ (f .size)))
+    (accepted-both (accepted-require _ _ (eq-eqb _ _ (f .public-count)))
+    (accepted-both (accepted-require _ _ (eq-eqb _ _ (f .private-count))) (values-accepted (f .values))))
+
+pub public-formed : (c a : List ℕ) → Accepted (publicVerdict c a) → PublicFormed c a
+unfolding publicVerdict
+public-formed c a h =
+    let size = taken _ _ _ (lit< tt) h in
+    let public-count = taken _ _ _ (lit< tt) (size .1) in
+    record {
+      size = eqb-true _ _ (size .0);
+      public-count = eqb-true _ _ (public-count .0);
+      values = values-formed a (public-count .1);
+    }
+
+pub public-accepted : {c a : List ℕ} → PublicFormed c a → Accepted (publicVerdict c a)
+unfolding publicVerdict
+public-accepted f = accepted-both (accepted-require _ _ (eq-eqb _ _ (f .size)))
+    (accepted-both (accepted-require _ _ (eq-eqb _ _ (f .public-count))) (values-accepted (f .values)))
+
+-- a call that takes both lists
+pub both-formed : (c a : List ℕ) → Accepted (circuitThenAssignment c a) → WellFormed c × AssignmentFormed c a
+unfolding circuitThenAssignment
+both-formed c a h = let parts = accepted-parts h in (circuit-formed c (parts .0), assignment-formed c a (parts .1))
+
+pub both-public-formed : (c a : List ℕ) → Accepted (circuitThenPublic c a) → WellFormed c × PublicFormed c a
+unfolding circuitThenPublic
+both-public-formed c a h = let parts = accepted-parts h in (circuit-formed c (parts .0), public-formed c a (parts .1))
+
+ruleset proper = (proper-require, proper-andThen, lit<, tt)
+
+pub proper-words : (a : List ℕ) → Proper (wordsVerdict a)
+unfolding wordsVerdict
+proper-words a = proper-first (each a) (length a) (λ i l. proper-require _ _ _ (lit< tt))
+
+proper-values : (a : List ℕ) → Proper (valuesVerdict a)
+unfolding valuesVerdict
+proper-values a = let words = proper-words a in search proper depth 16
+
+pub proper-assignment : (c a : List ℕ) → Proper (assignmentVerdict c a)
+unfolding assignmentVerdict
+proper-assignment c a = let values = proper-values a in search proper depth 16
+
+pub proper-public : (c a : List ℕ) → Proper (publicVerdict c a)
+unfolding publicVerdict
+proper-public c a = let values = proper-values a in search proper depth 16

@@ -1,0 +1,34 @@
+-- Accepted words have a count q and at least q + 1 words; refused ones hand out nothing.
+use mathlib.Core.Path.{sym}
+use lib.Seq.{length-take-le}
+use native.Mathlib.Omega.{arith}
+use Rattle.outcome.proofs.Verdict.{is-accepted, is-refused, written-new, written-old}
+use Rattle.circuit.specs.WellFormed.{WellFormed}
+use Rattle.assignment.specs.Assignment.{publicSection}
+use Rattle.assignment.specs.WellFormed.{AssignmentFormed}
+use Rattle.assignment.proofs.Accepted.{both-formed}
+use borrow.Author.Needs.{needs}
+use Rattle.assignment.proofs.public_section.Statement.{statement}
+use Rattle.assignment.proofs.public_section.Tie as tie
+
+formed : (c : tie.Else1) → let args = c .before .before .before .before .before .args in
+    WellFormed (args .circuit .now) × AssignmentFormed (args .circuit .now) (args .words .now)
+formed c = both-formed _ _ (is-accepted (c .before .before .assignment-verdict .ensures) (c .if1 .left))
+
+returns : tie.Need-returns
+unfolding publicSection
+returns c = sym (written-old _ _ (is-refused (c .before .before .before .assignment-verdict .ensures) (c .before .if1 .taken)))
+
+slice-aggregate-result-2 : tie.Need-slice-aggregate-result-2
+slice-aggregate-result-2 c = sym (length-take-le _ _ (omega (arith, formed (c .before .before))))
+
+returns-2 : tie.Need-returns-2
+unfolding publicSection
+returns-2 c =
+    let else = c .before .before in
+    sym (written-new _ _ (is-accepted (else .before .before .assignment-verdict .ensures) (else .if1 .left)))
+
+pub public-section-spec : {M : Type 1} → statement M
+public-section-spec = tie.close
+    (tie.spec (λ c κs. search needs) (λ c. search needs) returns (λ c. omega (arith, formed (c .before))) (λ c. omega (arith, formed (c .before)))
+    (λ c. omega (arith, formed (c .before))) slice-aggregate-result-2 returns-2)

@@ -1,0 +1,121 @@
+// Assignments and public sections: numbers 6 and 7 of document 01's table, and the public section handed out.
+ghost use mathlib.Core.Path.{_≡_};
+ghost use Prim.Native.Nat.{_≤_};
+ghost use lib.ListN.{length};
+ghost use Rattle.circuit.specs.WellFormed.{Formed};
+ghost use Rattle.assignment.specs.Assignment.{wordsVerdict, valuesVerdict, assignmentVerdict, publicVerdict, circuitThenAssignment, circuitThenPublic, publicSection};
+use outcome::Outcome;
+
+// Every word below p.
+fn words_verdict(words: &[u32]) -> Outcome
+    ensures { λ r. ⌜ r ≡ wordsVerdict (now (words .entry)) ⌝ }
+{
+    let mut i = 0;
+    while i < words.len() {
+        if field::MINUS_ONE < words[i] {
+            return Outcome {
+                number: 7,
+                place: i,
+            };
+        }
+        i += 1;
+    }
+    Outcome {
+        number: 0,
+        place: 0,
+    }
+}
+
+fn values_verdict(words: &[u32]) -> Outcome
+    requires { ⌜ 2 ≤ length (now words) ⌝ }
+    ensures { λ r. ⌜ r ≡ valuesVerdict (now (words .entry)) ⌝ }
+{
+    if words[1] != 1 {
+        return Outcome {
+            number: 7,
+            place: 1,
+        };
+    }
+    words_verdict(words)
+}
+
+// For a caller that has judged the circuit already. Its words may go on after the circuit.
+pub fn assignment_words_verdict(circuit: &[u32], words: &[u32]) -> Outcome
+    requires { ⌜ Formed (now circuit) ⌝ }
+    ensures { λ r. ⌜ r ≡ assignmentVerdict (now (circuit .entry)) (now (words .entry)) ⌝ }
+{
+    let q = circuit[1];
+    let n = circuit[2];
+    if words.len() != n as usize + 2 {
+        return Outcome {
+            number: 6,
+            place: 0,
+        };
+    }
+    if words[0] != q {
+        return Outcome {
+            number: 6,
+            place: 0,
+        };
+    }
+    if words[q as usize + 1] != n - q {
+        return Outcome {
+            number: 6,
+            place: 0,
+        };
+    }
+    values_verdict(words)
+}
+
+// The same for a public section alone.
+pub fn public_words_verdict(circuit: &[u32], words: &[u32]) -> Outcome
+    requires { ⌜ Formed (now circuit) ⌝ }
+    ensures { λ r. ⌜ r ≡ publicVerdict (now (circuit .entry)) (now (words .entry)) ⌝ }
+{
+    let q = circuit[1];
+    if words.len() != q as usize + 1 {
+        return Outcome {
+            number: 6,
+            place: 0,
+        };
+    }
+    if words[0] != q {
+        return Outcome {
+            number: 6,
+            place: 0,
+        };
+    }
+    values_verdict(words)
+}
+
+pub fn assignment_verdict(circuit: &[u32], words: &[u32]) -> Outcome
+    ensures { λ r. ⌜ r ≡ circuitThenAssignment (now (circuit .entry)) (now (words .entry)) ⌝ }
+{
+    let found = circuit::reader::circuit_verdict(circuit);
+    if found.number != 0 {
+        return found;
+    }
+    assignment_words_verdict(circuit, words)
+}
+
+pub fn public_verdict(circuit: &[u32], words: &[u32]) -> Outcome
+    ensures { λ r. ⌜ r ≡ circuitThenPublic (now (circuit .entry)) (now (words .entry)) ⌝ }
+{
+    let found = circuit::reader::circuit_verdict(circuit);
+    if found.number != 0 {
+        return found;
+    }
+    public_words_verdict(circuit, words)
+}
+
+// The part of the lent assignment that holds the public section, or an empty part.
+pub fn public_section<'a>(circuit: &[u32], words: &'a [u32]) -> &'a [u32]
+    ensures { λ r. ⌜ now r ≡ publicSection (now (circuit .entry)) (now (words .entry)) ⌝ }
+{
+    let found = assignment_verdict(circuit, words);
+    if found.number != 0 {
+        return &words[..0];
+    }
+    let end = circuit[1] as usize + 1;
+    &words[..end]
+}

@@ -1,0 +1,7 @@
+pub mod Proper
+pub mod Formed
+pub mod Sections
+pub mod Totals
+pub mod Entries
+pub mod Coefficients
+pub mod Prefix

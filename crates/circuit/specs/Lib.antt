@@ -1,0 +1,4 @@
+pub mod Circuit
+pub mod Reader
+pub mod WellFormed
+pub mod Totals

@@ -1,0 +1,3 @@
+pub mod Verdict
+pub mod Chain
+pub mod Scan

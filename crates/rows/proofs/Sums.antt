@@ -1,0 +1,109 @@
+-- The loop's words are the row sums: adding an entry to its row makes the sums over one entry more, and the sums over all
+-- entries of a section are those over the columns.
+use mathlib.Core.Bool.{Bool, true, false}
+use mathlib.Core.List.{List}
+use mathlib.Core.Path.{_≡_, refl, sym, _∙_, ap}
+use Prim.Native.Nat.{ℕ, suc, _+_, _*_, _-_, _%_, _≤_, _<_}
+use native.Mathlib.Numerals.{add-one}
+use native.Mathlib.Omega.{arith}
+use borrow.Author.Tests.{eq-eqb, ne-eqb, eqb-true, eqb-false}
+use lib.Dec.{eqb}
+use lib.ListN.{length, getD, set, length-set}
+use lib.Seq.{ext-getD, getD-set-same, getD-set-other}
+use Rattle.outcome.specs.Verdict.{within, Within}
+use Rattle.field.specs.Field.{p}
+use Rattle.algebra.proofs.Congruence.{≈-plus, ≈-reduced, ≈-refl}
+use Rattle.circuit.specs.Circuit.{word, rows, entries, rowOf, columnOf, valueOf, section, coef}
+use Rattle.circuit.specs.WellFormed.{Formed}
+use Rattle.circuit.specs.Totals.{total, table, only}
+use Rattle.circuit.proofs.Totals.{length-table, table-at}
+use Rattle.circuit.proofs.Entries.{row-entries}
+use Rattle.assignment.specs.Assignment.{weight}
+use Rattle.rows.specs.Rows.{rowSum, rowSums}
+use Rattle.rows.specs.Sums.{entryPart, entrySums, withEntry}
+
+pub table-same : (f g : ℕ → ℕ) (m : ℕ) → ((i : ℕ) → i < m → f i ≡ g i) → table f m ≡ table g m
+table-same f g m h = ext-getD 0 (table f m) (table g m) (length-table f m ∙ sym (length-table g m))
+    (λ i l. let below : i < m = rw (length-table f m) at l in table-at f m i below ∙ h i below ∙ sym (table-at g m i below))
+
+set-table : (f g : ℕ → ℕ) (m r x : ℕ) → r < m → g r ≡ x → ((i : ℕ) → i < m → (i ≡ r → ⊥) → g i ≡ f i) → set (table f m) r x ≡ table g m
+set-table f g m r x l here others = ext-getD 0 (set (table f m) r x) (table g m)
+    (length-set (table f m) r x ∙ length-table f m ∙ sym (length-table g m))
+    (λ i h. let below : i < m = rw (length-set (table f m) r x, length-table f m) at h in at i below (eqb i r) refl)
+  where
+    at : (i : ℕ) → i < m → (b : Bool) → eqb i r ≡ b → getD (set (table f m) r x) i 0 ≡ getD (table g m) i 0
+    at i below true e =
+        rw (eqb-true i r e) (getD-set-same (table f m) r x 0 (rw (length-table f m) l) ∙ sym here ∙ sym (table-at g m r l))
+    at i below false e =
+        getD-set-other (table f m) r i x 0 (eqb-false i r e) ∙ table-at f m i below
+        ∙ sym (others i below (eqb-false i r e)) ∙ sym (table-at g m i below)
+
+module _ (c : List ℕ) (s : ℕ) (a : List ℕ) (from to e : ℕ) where
+  -- what the entry adds where its column counts
+  product : ℕ
+  product = weight c a (columnOf c s e) * valueOf c s e
+
+  own-row : within (suc from) (columnOf c s e) to ≡ true → entryPart c s a from to (rowOf c s e) e ≡ product
+  unfolding product
+  own-row h = rw (eq-eqb (rowOf c s e) (rowOf c s e) refl, h)
+
+  other-row : (i : ℕ) → (rowOf c s e ≡ i → ⊥) → entryPart c s a from to i e ≡ 0
+  other-row i h = rw (ne-eqb (rowOf c s e) i h)
+
+  no-column : within (suc from) (columnOf c s e) to ≡ false → (i : ℕ) → entryPart c s a from to i e ≡ 0
+  no-column h i = rw h (nothing (eqb (rowOf c s e) i))
+    where
+      nothing : (b : Bool) → only b 0 ≡ 0
+      nothing true = refl
+      nothing false = refl
+
+  sums : ℕ → ℕ → ℕ
+  sums k i = total (entryPart c s a from to (suc i)) k % p
+
+  same-sum : (i : ℕ) → entryPart c s a from to (suc i) e ≡ 0 → sums (suc e) i ≡ sums e i
+  unfolding sums total
+  same-sum i h = ap (λ (x : ℕ). x % p) (omega arith)
+
+  more-sum : (r : ℕ) → rowOf c s e ≡ suc r → within (suc from) (columnOf c s e) to ≡ true →
+      sums (suc e) r ≡ (sums e r + product) % p
+  unfolding sums total
+  more-sum r h k =
+      let here : entryPart c s a from to (suc r) e ≡ product = rw (← h) (own-row k) in
+      ap (λ (x : ℕ). (total (entryPart c s a from to (suc r)) e + x) % p) here
+      ∙ sym (≈-plus (≈-reduced p (total (entryPart c s a from to (suc r)) e)) (≈-refl p product) .same)
+
+  pub next-entry : Within 1 (rowOf c s e) (rows c) →
+      withEntry c s a from to e (entrySums c s a from to e) ≡ entrySums c s a from to (e + 1)
+  unfolding withEntry entrySums sums product
+  next-entry row = rw (add-one e) (go (within (suc from) (columnOf c s e) to) refl)
+    where
+      go : (b : Bool) → within (suc from) (columnOf c s e) to ≡ b →
+          _≡_ {A = List ℕ}
+          (elim b [
+            | true ↦ set (table (sums e) (rows c)) (rowOf c s e - 1) ((word (table (sums e) (rows c)) (rowOf c s e - 1) + product) % p)
+            | false ↦ table (sums e) (rows c)
+          ])
+          (table (sums (suc e)) (rows c))
+      go true h =
+          let up : rowOf c s e ≡ suc (rowOf c s e - 1) = omega arith in
+          let low : rowOf c s e - 1 < rows c = omega arith in
+          set-table (sums e) (sums (suc e)) (rows c) (rowOf c s e - 1) _ low
+          (more-sum (rowOf c s e - 1) up h ∙ rw (table-at (sums e) (rows c) (rowOf c s e - 1) low))
+          (λ i l apart. same-sum i (other-row (suc i) (λ q. apart (omega arith))))
+      go false h = table-same (sums e) (sums (suc e)) (rows c) (λ i l. sym (same-sum i (no-column h (suc i))))
+
+pub all-entries : {c : List ℕ} → Formed c → (a : List ℕ) (matrix from to : ℕ) → matrix < 3 → from ≤ to →
+    entrySums c (section c matrix) a from to (entries c (section c matrix)) ≡ rowSums c a matrix from to
+unfolding entrySums rowSums rowSum coef
+all-entries {c} formed a matrix from to l up =
+    let whole : from + (to - from) ≡ to = omega arith in
+    table-same _ _ (rows c) (λ i below. ap (λ (x : ℕ). x % p)
+    (sym (rw whole at (row-entries (formed .column-count .at-most) (formed .matrices matrix l) (weight c a) (suc i) from (to - from)))))
+
+pub length-sums : (c : List ℕ) (s : ℕ) (a : List ℕ) (from to k : ℕ) → length (entrySums c s a from to k) ≡ rows c
+unfolding entrySums
+length-sums c s a from to k = length-table _ (rows c)
+
+pub no-entries : (c : List ℕ) (s : ℕ) (a : List ℕ) (from to : ℕ) → table (λ i. 0) (rows c) ≡ entrySums c s a from to 0
+unfolding entrySums total
+no-entries c s a from to = refl

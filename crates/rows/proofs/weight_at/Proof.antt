@@ -1,0 +1,12 @@
+-- The two branches are the two cases of the definition.
+use mathlib.Core.Path.{sym}
+use native.Mathlib.Omega.{arith}
+use borrow.Author.Needs.{needs}
+use Rattle.assignment.proofs.Weights.{public-at, private-at}
+use Rattle.rows.proofs.weight_at.Statement.{statement}
+use Rattle.rows.proofs.weight_at.Tie as tie
+
+pub weight-at-spec : {M : Type 1} → statement M
+weight-at-spec = tie.close
+    (tie.spec (λ c. search needs) (λ c. omega (arith, c .shared-slice-known .given 1)) (λ c. sym (public-at _ _ (c .if1 .taken)))
+    (λ c. search needs) (λ c. sym (private-at _ _ (c .if1 .left))))

@@ -1,0 +1,57 @@
+-- Row sums, and when the rows hold: A times B equals C at each row, in the field.
+-- Document 01, "Polynomials" (sums over all columns), "Query and checks" (private and public parts), number 10.
+use mathlib.Core.List.{List}
+use Prim.Native.Nat.{ℕ, suc, _+_, _-_, _*_, _%_, _≤_, _<_}
+use lib.Dec.{eqb}
+use Rattle.algebra.specs.Congruence.{_≈⟨_⟩_}
+use Rattle.outcome.specs.declared.Outcome.{Outcome}
+use Rattle.outcome.specs.Verdict.{require, Within, first}
+use Rattle.field.specs.Field.{p}
+use Rattle.circuit.specs.Circuit.{rows, publics, columns, coef}
+use Rattle.circuit.specs.Totals.{total, table}
+use Rattle.assignment.specs.Assignment.{weight}
+
+-- the sum of w_j a(i,j) over the columns after `from` up to `to`, exact
+unfoldable pub rowSum : List ℕ → List ℕ → ℕ → ℕ → ℕ → ℕ → ℕ
+rowSum c a matrix i from to = total (λ t. weight c a (suc (from + t)) * coef c matrix i (suc (from + t))) (to - from)
+
+-- over all columns, the public ones alone, the private ones alone
+
+abbrev pub wholeSum : List ℕ → List ℕ → ℕ → ℕ → ℕ
+wholeSum c a matrix i = rowSum c a matrix i 0 (columns c)
+
+abbrev pub publicSum : List ℕ → List ℕ → ℕ → ℕ → ℕ
+publicSum c a matrix i = rowSum c a matrix i 0 (publics c)
+
+abbrev pub privateSum : List ℕ → List ℕ → ℕ → ℕ → ℕ
+privateSum c a matrix i = rowSum c a matrix i (publics c) (columns c)
+
+-- the sums of rows 1, 2, .., m as field words
+unfoldable pub rowSums : List ℕ → List ℕ → ℕ → ℕ → ℕ → List ℕ
+rowSums c a matrix from to = table (λ i. rowSum c a matrix (suc i) from to % p) (rows c)
+
+-- row i holds: A times B equals C there
+pub record RowHolds (c a : List ℕ) (i : ℕ) : Type 0 where
+  pub equal : wholeSum c a 0 i * wholeSum c a 1 i ≈⟨ p ⟩ wholeSum c a 2 i
+
+-- every row does; they are counted from 1
+pub record RowsHold (c a : List ℕ) : Type 0 where
+  pub at-row : (i : ℕ) → 1 ≤ i → i ≤ rows c → RowHolds c a i
+
+-- row i fails, and every lower row holds
+pub record FailsFirst (c a : List ℕ) (i : ℕ) : Type 0 where
+  pub row : Within 1 i (rows c)
+  pub fails : RowHolds c a i → ⊥
+  pub lower : (j : ℕ) → 1 ≤ j → j < i → RowHolds c a j
+
+-- 10 at row i
+unfoldable pub rowVerdict : List ℕ → List ℕ → ℕ → Outcome
+rowVerdict c a i = require (eqb (wholeSum c a 0 i * wholeSum c a 1 i % p) (wholeSum c a 2 i % p)) 10 i
+
+-- 10 at the lowest failing row
+unfoldable pub rowsVerdict : List ℕ → List ℕ → Outcome
+rowsVerdict c a = first (λ i. rowVerdict c a (suc i)) (rows c)
+
+-- its place alone: 0 where no row fails
+abbrev pub lowestFailing : List ℕ → List ℕ → ℕ
+lowestFailing c a = rowsVerdict c a .place

@@ -1,0 +1,48 @@
+-- What the loops that sum rows do, entry by entry, and what they ask; proofs/Sums.antt shows that they give specs/Rows.antt's sums.
+use mathlib.Core.Bool.{true, false}
+use mathlib.Core.List.{List}
+use mathlib.Core.Path.{_≡_}
+use Prim.Native.Nat.{ℕ, suc, _+_, _-_, _*_, _%_, _≤_, _<_}
+use lib.Dec.{eqb}
+use lib.ListN.{length, set}
+use Rattle.outcome.specs.declared.Outcome.{Outcome}
+use Rattle.outcome.specs.Verdict.{require, within, first}
+use Rattle.field.specs.Field.{p}
+use Rattle.circuit.specs.Circuit.{word, rows, columns, rowOf, columnOf, valueOf}
+use Rattle.circuit.specs.Totals.{total, table, only}
+use Rattle.assignment.specs.Assignment.{weightAt, weight}
+use Rattle.rows.specs.Rows.{rowSums, rowsVerdict}
+
+-- sums over the columns after `from` up to `to` can be made: those columns are there, and so are their values
+pub record Span (c a : List ℕ) (from to : ℕ) : Type 0 where
+  pub ascending : from ≤ to
+  pub inside : to ≤ columns c
+  pub given : weightAt c to < length a
+
+-- what entry e of a section adds to row i
+abbrev pub entryPart : List ℕ → ℕ → List ℕ → ℕ → ℕ → ℕ → ℕ → ℕ
+entryPart c s a from to i e =
+    only (eqb (rowOf c s e) i) (only (within (suc from) (columnOf c s e) to) (weight c a (columnOf c s e) * valueOf c s e))
+
+-- the rows' sums over the first k entries of a section, as field words
+unfoldable pub entrySums : List ℕ → ℕ → List ℕ → ℕ → ℕ → ℕ → List ℕ
+entrySums c s a from to k = table (λ i. total (entryPart c s a from to (suc i)) k % p) (rows c)
+
+-- the words after entry e was added to its row
+unfoldable pub withEntry : List ℕ → ℕ → List ℕ → ℕ → ℕ → ℕ → List ℕ → List ℕ
+withEntry c s a from to e xs =
+    elim (within (suc from) (columnOf c s e) to) [
+      | true ↦ set xs (rowOf c s e - 1) ((word xs (rowOf c s e - 1) + weight c a (columnOf c s e) * valueOf c s e) % p)
+      | false ↦ xs
+    ]
+
+-- 10 over lists of row sums
+unfoldable pub sumsVerdict : List ℕ → List ℕ → List ℕ → Outcome
+sumsVerdict a b c = first (λ i. require (eqb (word a i * word b i % p) (word c i)) 10 (suc i)) (length a)
+
+-- three lists of row sums made, and the verdict over them
+pub record RowsRead (c w a b d : List ℕ) (r : Outcome) : Type 0 where
+  pub sums-a : a ≡ rowSums c w 0 0 (columns c)
+  pub sums-b : b ≡ rowSums c w 1 0 (columns c)
+  pub sums-c : d ≡ rowSums c w 2 0 (columns c)
+  pub outcome : r ≡ rowsVerdict c w

@@ -1,0 +1,165 @@
+// Row sums of a matrix in one pass over its listed entries, and the lowest failing row (document 01, number 10).
+ghost use mathlib.Core.Path.{_≡_};
+ghost use Prim.Native.Nat.{_+_, _≤_, _<_};
+ghost use lib.ListN.{length};
+ghost use Rattle.circuit.specs.Circuit.{rows, publics, columns, entries, entryAt, section};
+ghost use Rattle.circuit.specs.WellFormed.{EntryFormed, SectionFormed, Formed};
+ghost use Rattle.circuit.specs.Totals.{table};
+ghost use Rattle.assignment.specs.Assignment.{weightAt};
+ghost use Rattle.assignment.specs.WellFormed.{AssignmentFormed, PublicFormed};
+ghost use Rattle.rows.specs.Rows.{rowSums};
+ghost use Rattle.rows.specs.Sums.{Span, entrySums, withEntry, sumsVerdict, RowsRead};
+use outcome::Outcome;
+
+// The index of a column's value in an assignment.
+fn weight_at(circuit: &[u32], column: usize) -> usize
+    requires { ⌜ (3 ≤ length (now circuit)) × (column < 1024) ⌝ }
+    ensures { λ r. ⌜ r ≡ weightAt (now (circuit .entry)) column ⌝ }
+{
+    if column <= circuit[1] as usize {
+        return column;
+    }
+    column + 1
+}
+
+fn clear(out: &mut [u32])
+    ensures { λ _. ⌜ now (out .exit) ≡ table (λ i. 0) (length (now (out .entry))) ⌝ }
+{
+    let mut i = 0;
+    while i < out.len() {
+        out[i] = 0;
+        i += 1;
+    }
+}
+
+// Entry e of the section whose count stands at `start`, added to its row where its column counts.
+fn add_entry(
+    circuit: &[u32],
+    start: usize,
+    e: usize,
+    values: &[u32],
+    from: usize,
+    to: usize,
+    out: &mut [u32],
+)
+    requires { ⌜ Formed (now circuit) × EntryFormed (now circuit) start e × (entryAt start e + 3 ≤ length (now circuit)) ⌝ }
+    requires { ⌜ Span (now circuit) (now values) from to × (length (now out) ≡ rows (now circuit)) ⌝ }
+    ensures { λ _. ⌜ now (out .exit) ≡ withEntry (now (circuit .entry)) start (now (values .entry)) from to e (now (out .entry)) ⌝ }
+{
+    let at = start + 1 + 3 * e;
+    let column = circuit[at + 1] as usize;
+    if column <= from {
+        return;
+    }
+    if to < column {
+        return;
+    }
+    let row = circuit[at] as usize - 1;
+    let value = weight_at(circuit, column);
+    out[row] = field::add_scaled(out[row], values[value], circuit[at + 2]);
+}
+
+// All entries of the section, added to words that are 0.
+fn add_entries(
+    circuit: &[u32],
+    start: usize,
+    values: &[u32],
+    from: usize,
+    to: usize,
+    out: &mut [u32],
+)
+    requires { ⌜ Formed (now circuit) × SectionFormed (now circuit) start ⌝ }
+    requires { ⌜ Span (now circuit) (now values) from to × (now out ≡ table (λ i. 0) (rows (now circuit))) ⌝ }
+    ensures { λ _. ⌜ now (out .exit) ≡ entrySums (now (circuit .entry)) start (now (values .entry)) from to (entries (now (circuit .entry)) start) ⌝ }
+{
+    let entries = circuit[start] as usize;
+    let mut e = 0;
+    while e < entries {
+        add_entry(circuit, start, e, values, from, to, out);
+        e += 1;
+    }
+}
+
+// The sums of one matrix over the columns after `from` up to `to`, as field words, row by row.
+pub fn row_sums(
+    circuit: &[u32],
+    matrix: usize,
+    values: &[u32],
+    from: usize,
+    to: usize,
+    out: &mut [u32],
+)
+    requires { ⌜ Formed (now circuit) × (matrix < 3) × Span (now circuit) (now values) from to × (length (now out) ≡ rows (now circuit)) ⌝ }
+    ensures { λ _. ⌜ now (out .exit) ≡ rowSums (now (circuit .entry)) (now (values .entry)) matrix from to ⌝ }
+{
+    let start = circuit::reader::section_start(circuit, matrix);
+    clear(out);
+    add_entries(circuit, start, values, from, to, out);
+}
+
+// Over all columns of an assignment.
+pub fn whole_sums(circuit: &[u32], matrix: usize, values: &[u32], out: &mut [u32])
+    requires { ⌜ Formed (now circuit) × (matrix < 3) × AssignmentFormed (now circuit) (now values) × (length (now out) ≡ rows (now circuit)) ⌝ }
+    ensures { λ _. ⌜ now (out .exit) ≡ rowSums (now (circuit .entry)) (now (values .entry)) matrix 0 (columns (now (circuit .entry))) ⌝ }
+{
+    let n = circuit[2] as usize;
+    row_sums(circuit, matrix, values, 0, n, out);
+}
+
+// Over the public columns; a public section alone has their values.
+pub fn public_sums(circuit: &[u32], matrix: usize, values: &[u32], out: &mut [u32])
+    requires { ⌜ Formed (now circuit) × (matrix < 3) × PublicFormed (now circuit) (now values) × (length (now out) ≡ rows (now circuit)) ⌝ }
+    ensures { λ _. ⌜ now (out .exit) ≡ rowSums (now (circuit .entry)) (now (values .entry)) matrix 0 (publics (now (circuit .entry))) ⌝ }
+{
+    let q = circuit[1] as usize;
+    row_sums(circuit, matrix, values, 0, q, out);
+}
+
+// Over the private columns of an assignment.
+pub fn private_sums(circuit: &[u32], matrix: usize, values: &[u32], out: &mut [u32])
+    requires { ⌜ Formed (now circuit) × (matrix < 3) × AssignmentFormed (now circuit) (now values) × (length (now out) ≡ rows (now circuit)) ⌝ }
+    ensures { λ _. ⌜ now (out .exit) ≡ rowSums (now (circuit .entry)) (now (values .entry)) matrix (publics (now (circuit .entry))) (columns (now (circuit .entry))) ⌝ }
+{
+    let q = circuit[1] as usize;
+    let n = circuit[2] as usize;
+    row_sums(circuit, matrix, values, q, n, out);
+}
+
+// The lowest row where the product of the first two sums is not the third.
+pub fn sums_verdict(a: &[u32], b: &[u32], c: &[u32]) -> Outcome
+    requires { ⌜ (length (now b) ≡ length (now a)) × (length (now c) ≡ length (now a)) ⌝ }
+    ensures { λ r. ⌜ r ≡ sumsVerdict (now (a .entry)) (now (b .entry)) (now (c .entry)) ⌝ }
+{
+    let mut i = 0;
+    while i < a.len() {
+        if field::times(a[i], b[i]) != c[i] {
+            return Outcome {
+                number: 10,
+                place: i + 1,
+            };
+        }
+        i += 1;
+    }
+    Outcome {
+        number: 0,
+        place: 0,
+    }
+}
+
+// The three lists of sums over all columns, and 10 at the lowest failing row.
+pub fn rows_verdict(
+    circuit: &[u32],
+    values: &[u32],
+    a: &mut [u32],
+    b: &mut [u32],
+    c: &mut [u32],
+) -> Outcome
+    requires { ⌜ Formed (now circuit) × AssignmentFormed (now circuit) (now values) ⌝ }
+    requires { ⌜ (length (now a) ≡ rows (now circuit)) × (length (now b) ≡ rows (now circuit)) × (length (now c) ≡ rows (now circuit)) ⌝ }
+    ensures { λ r. ⌜ RowsRead (now (circuit .entry)) (now (values .entry)) (now (a .exit)) (now (b .exit)) (now (c .exit)) r ⌝ }
+{
+    whole_sums(circuit, 0, values, a);
+    whole_sums(circuit, 1, values, b);
+    whole_sums(circuit, 2, values, c);
+    sums_verdict(a, b, c)
+}
