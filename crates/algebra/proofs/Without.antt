@@ -11,7 +11,7 @@ use Rattle.algebra.specs.Basis.{without}
 use Rattle.algebra.proofs.Congruence.{≈-eq}
 use Rattle.algebra.proofs.Weights.{by-weights}
 use Rattle.algebra.proofs.Same.{≋-sym, ≋-trans, ≋-reduced}
-use Rattle.algebra.proofs.Roots.{divided}
+use Rattle.algebra.specs.Polynomial.{divided}
 use Rattle.algebra.proofs.Target.{target-zero}
 use Rattle.algebra.proofs.Division.{weigh-factor, factor-same, factor-cancel, divided-exact}
 

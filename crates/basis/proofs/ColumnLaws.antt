@@ -15,7 +15,8 @@ use Rattle.algebra.proofs.Congruence.{≈-eq, ≈-refl, ≈-sym, ≈-trans, ≈
 use Rattle.algebra.proofs.Inverse.{positive}
 use Rattle.algebra.proofs.Polynomial.{value-sum, value-multiple}
 use Rattle.algebra.proofs.Same.{≋-value}
-use Rattle.algebra.proofs.Roots.{divided, length-divided, divided-zero}
+use Rattle.algebra.specs.Polynomial.{divided}
+use Rattle.algebra.proofs.Roots.{length-divided, divided-zero}
 use Rattle.algebra.proofs.Target.{length-target, target-zero}
 use Rattle.algebra.proofs.Without.{divided-target}
 use Rattle.poly.specs.AddScaled.{scaled}

@@ -54,22 +54,22 @@ weigh-add-product p (a ∷ f) g room φ fits =
     by (≈-plus rest (weigh-scaled p a g room φ (omega arith)))
     (simp (weigh-sum, weigh-multiple) (omega arith))
 
-length-product-fits : (f g : List ℕ) (n : ℕ) → length f ≤ n → length f + length g ≤ n + 1 → length (product f g) ≤ n
+pub length-product-fits : (f g : List ℕ) (n : ℕ) → length f ≤ n → length f + length g ≤ n + 1 → length (product f g) ≤ n
 unfolding product
 length-product-fits [] g n hf h = omega arith
 length-product-fits (a ∷ f) g zero hf h = absurd (omega arith)
 length-product-fits (a ∷ f) g (suc n) hf h =
     rw (length-sum, length-multiple) (omega (arith, length-product-fits f g n (omega arith) (omega arith)))
 
-length-within : (n : ℕ) (f : List ℕ) → length f ≤ n → length (within n f) ≡ n
+pub length-within : (n : ℕ) (f : List ℕ) → length f ≤ n → length (within n f) ≡ n
 unfolding within zeros
 length-within n f h = rw (length-append, length-replicate) (omega arith)
 
-words-within : {p : ℕ} → 0 < p → (n : ℕ) (f : List ℕ) → Words p f → Words p (within n f)
+pub words-within : {p : ℕ} → 0 < p → (n : ℕ) (f : List ℕ) → Words p f → Words p (within n f)
 unfolding within zeros
 words-within h n f w = words-append f _ w (words-zero h (n - length f))
 
-weigh-within : (n : ℕ) (f : List ℕ) (φ : ℕ → ℕ) → weigh (within n f) φ ≡ weigh f φ
+pub weigh-within : (n : ℕ) (f : List ℕ) (φ : ℕ → ℕ) → weigh (within n f) φ ≡ weigh f φ
 unfolding within zeros
 weigh-within n f φ = rw (weigh-append, weigh-zeros) (omega arith)
 

@@ -7,7 +7,7 @@ use native.Mathlib.Omega.{arith}
 use borrow.Author.Needs.{needs}
 use lib.ListN.{length, getD}
 use Rattle.algebra.specs.Points.{consecutive}
-use Rattle.algebra.proofs.Roots.{divided}
+use Rattle.algebra.specs.Polynomial.{divided}
 use Rattle.algebra.proofs.Target.{length-target}
 use Rattle.algebra.proofs.Consecutive.{length-consecutive, consecutive-at, distinct-consecutive}
 use Rattle.field.specs.Field.{p}
