@@ -1,5 +1,13 @@
-# make test: the gate, the one verdict.
-.PHONY: test
+# make run: proves, builds and runs the demonstration. make test: the gate, the one verdict.
+# make bench: times the polynomial loops beside Rust (docs/BENCH.md).
+.PHONY: run test bench
+
+run:
+	rt check field_run
+	target/bin/field_run
 
 test:
 	bash .ci/run
+
+bench:
+	bash bench/run

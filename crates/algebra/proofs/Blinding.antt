@@ -14,11 +14,22 @@ use Rattle.algebra.proofs.Congruence.{≈-sym, ≈-plus, ≈-times, ≈
 use Rattle.algebra.proofs.Weights.{weigh, weights, by-weights, weigh-sum, weigh-multiple}
 use Rattle.algebra.proofs.Inverse.{positive}
 use Rattle.algebra.proofs.Polynomial.{length-sum, length-multiple, length-product, length-reduced, value-sum, value-multiple, value-product}
-use Rattle.algebra.proofs.Same.{≋-sym, ≋-trans, ≋-value, ≋-reduced, reduced-words, words-equal}
+use Rattle.algebra.proofs.Same.{≋-refl, ≋-sym, ≋-trans, ≋-value, ≋-reduced, reduced-words, words-equal}
 use Rattle.algebra.proofs.Difference.{difference, length-difference, difference-value, difference-sum}
 use Rattle.algebra.proofs.Target.{length-target, target-zero}
 use Rattle.algebra.proofs.Division.{division, target-cancel}
-use Rattle.algebra.proofs.Products.{product-same, product-swap, product-sum-left, product-multiple-left, product-sum-right, product-multiple-right, product-constant}
+use Rattle.algebra.proofs.Products.{product-same, products-same, sums-same, product-swap, product-sum-left, product-multiple-left, product-sum-right, product-multiple-right, product-constant}
+
+-- the equality at a point
+pub divides-value : {p : ℕ} {xs a b c h : List ℕ} → Divides p xs a b c h → (s : ℕ) →
+    value a s * value b s ≈⟨ p ⟩ value c s + value (target p xs) s * value h s
+divides-value e s = simp (value-product, value-sum) at (≋-value (e .equal) s)
+
+-- the same polynomials divide alike
+pub divides-alike : {p : ℕ} {xs a b c f g k h : List ℕ} → a ≋⟨ p ⟩ f → b ≋⟨ p ⟩ g → c ≋⟨ p ⟩ k → Divides p xs a b c h → Divides p xs f g k h
+divides-alike {p} {xs} {h = h} sa sb sc e = record {
+  equal = ≋-trans (products-same (≋-sym sa) (≋-sym sb)) (≋-trans (e .equal) (sums-same sc (≋-refl p (product (target p xs) h))));
+}
 
 module _ {p : ℕ} (pos : 0 < p) (xs a b c : List ℕ) where
   -- A B − C = Z H fixes H
@@ -26,7 +37,7 @@ module _ {p : ℕ} (pos : 0 < p) (xs a b c : List ℕ) where
   divides-unique g h s t = target-cancel pos xs g h (by-weights (λ φ.
       let z = target p xs in
       let both = ≋-trans (≋-sym (s .equal)) (t .equal) in
-      let whole = rw (weigh-sum, weigh-sum) at (weights (sum c (product z g)) (sum c (product z h)) both φ) in
+      let whole = simp weigh-sum at (weights (sum c (product z g)) (sum c (product z h)) both φ) in
       by whole (omega arith)))
 
   divides-same : (g h : List ℕ) → g ≋⟨ p ⟩ h → Divides p xs a b c g → Divides p xs a b c h

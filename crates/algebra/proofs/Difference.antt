@@ -17,14 +17,17 @@ pub length-difference : (p : ℕ) (f g : List ℕ) → length (difference p f g)
 unfolding difference
 length-difference p f g = simp (length-sum, length-multiple)
 
+pub value-difference : (p : ℕ) (f g : List ℕ) (s : ℕ) → value (difference p f g) s ≡ value f s + (p - 1) * value g s
+unfolding difference
+value-difference p f g s = simp (value-sum, value-multiple)
+
 pub weigh-difference : (p : ℕ) (f g : List ℕ) (φ : ℕ → ℕ) → weigh (difference p f g) φ ≡ weigh f φ + (p - 1) * weigh g φ
 unfolding difference
 weigh-difference p f g φ = simp (weigh-sum, weigh-multiple)
 
 module _ {p : ℕ} (positive : 0 < p) (f g : List ℕ) where
   pub difference-value : (s : ℕ) → value f s ≈⟨ p ⟩ value g s → value (difference p f g) s ≈⟨ p ⟩ 0
-  unfolding difference
-  difference-value s h = rw (value-sum, value-multiple) (by (≈-plus h (≈-negative positive (value g s))) (omega arith))
+  difference-value s h = rw value-difference (by (≈-plus h (≈-negative positive (value g s))) (omega arith))
 
   pub difference-sum : {h : List ℕ} → difference p f g ≋⟨ p ⟩ h → f ≋⟨ p ⟩ sum g h
   difference-sum {h} e = by-weights (λ φ.

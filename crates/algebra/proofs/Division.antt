@@ -9,7 +9,7 @@ use native.Mathlib.Omega.{arith}
 use lib.ListN.{getD}
 use Rattle.algebra.specs.Congruence.{_≈⟨_⟩_, negative}
 use Rattle.algebra.specs.Prime.{Prime}
-use Rattle.algebra.specs.Polynomial.{value, product, reduced, _≋⟨_⟩_}
+use Rattle.algebra.specs.Polynomial.{value, divided, product, reduced, _≋⟨_⟩_}
 use Rattle.algebra.specs.Points.{Distinct, Vanishes, factor, target, Quotient}
 use Rattle.algebra.proofs.Congruence.{≈-sym, ≈-trans, ≈-plus, ≈-times, ≈-negative, ≈-eq, by}
 use Rattle.algebra.proofs.Inverse.{positive}
@@ -17,15 +17,15 @@ use Rattle.algebra.proofs.Polynomial.{length-reduced, value-product}
 use Rattle.algebra.proofs.Weights.{weigh, weights, by-weights, weigh-product}
 use Rattle.algebra.proofs.Same.{≋-refl, ≋-sym, ≋-trans, ≋-value, ≋-reduced, reduced-words, words-equal}
 use Rattle.algebra.proofs.Difference.{difference, weigh-difference, difference-zero}
-use Rattle.algebra.proofs.Roots.{divided, length-divided, divided-weigh, vanishes-divided, distinct-rest}
+use Rattle.algebra.proofs.Roots.{length-divided, divided-weigh, vanishes-divided, distinct-rest}
 use Rattle.algebra.proofs.Target.{target-zero}
 
 -- times X + c, in weights
-weigh-factor : (c : ℕ) (f : List ℕ) (φ : ℕ → ℕ) → weigh (product (c ∷ 1 ∷ []) f) φ ≡ c * weigh f φ + weigh f (λ k. φ (suc k))
+pub weigh-factor : (c : ℕ) (f : List ℕ) (φ : ℕ → ℕ) → weigh (product (c ∷ 1 ∷ []) f) φ ≡ c * weigh f φ + weigh f (λ k. φ (suc k))
 unfolding weigh
 weigh-factor c f φ = simp (weigh-product, zero-add, one-add) (omega arith)
 
-factor-same : {p : ℕ} (c : ℕ) (f g : List ℕ) → f ≋⟨ p ⟩ g → product (c ∷ 1 ∷ []) f ≋⟨ p ⟩ product (c ∷ 1 ∷ []) g
+pub factor-same : {p : ℕ} (c : ℕ) (f g : List ℕ) → f ≋⟨ p ⟩ g → product (c ∷ 1 ∷ []) f ≋⟨ p ⟩ product (c ∷ 1 ∷ []) g
 factor-same c f g h = by-weights (λ φ. rw (weigh-factor c f φ, weigh-factor c g φ) (≈-plus (≈-times c (weights f g h φ)) (weights f g h (λ k. φ (suc k)))))
 
 -- φ one place later
@@ -48,7 +48,7 @@ factor-zero {p} c d (e ∷ q) h = record { coefficient = at (factor-zero c e q n
         by (≈-plus (≈-plus (next (λ k. 1)) (≈-times c (≈-sym zero-q))) (≈-sym zero-q)) (omega arith)
     at rest (suc k) = rest .coefficient k
 
-factor-cancel : {p : ℕ} → 0 < p → (c : ℕ) (f g : List ℕ) → product (c ∷ 1 ∷ []) f ≋⟨ p ⟩ product (c ∷ 1 ∷ []) g → f ≋⟨ p ⟩ g
+pub factor-cancel : {p : ℕ} → 0 < p → (c : ℕ) (f g : List ℕ) → product (c ∷ 1 ∷ []) f ≋⟨ p ⟩ product (c ∷ 1 ∷ []) g → f ≋⟨ p ⟩ g
 factor-cancel {p} pos c f g h = difference-zero pos f g (factor-zero c 0 (difference p f g) (λ φ.
     let later : ℕ → ℕ = λ k. φ (suc k) in
     let right = c * weigh g φ + weigh g later in
@@ -67,7 +67,7 @@ target-product p x xs h = by-weights (λ φ.
     (≈-eq p (simp (weigh-factor (negative p x) z ψ, weigh-product z h, suc-add)))))
 
 -- what is 0 at x is X − x times its quotient
-divided-exact : {p : ℕ} → 0 < p → (x : ℕ) (f : List ℕ) → value f x ≈⟨ p ⟩ 0 → f ≋⟨ p ⟩ product (factor p x) (divided x f)
+pub divided-exact : {p : ℕ} → 0 < p → (x : ℕ) (f : List ℕ) → value f x ≈⟨ p ⟩ 0 → f ≋⟨ p ⟩ product (factor p x) (divided x f)
 divided-exact {p} pos x f h = by-weights (λ φ.
     let q = divided x f in
     rw (weigh-factor (negative p x) q φ)

@@ -19,7 +19,7 @@ use Rattle.algebra.proofs.Target.{length-target, target-zero, target-on
 
 module _ {p : ℕ} (prime : Prime p) where
   -- the target of the other points is not 0 at the first
-  first-apart : (x : ℕ) (xs : List ℕ) → Distinct p (x ∷ xs) → value (target p xs) x ≈⟨ p ⟩ 0 → ⊥
+  pub first-apart : (x : ℕ) (xs : List ℕ) → Distinct p (x ∷ xs) → value (target p xs) x ≈⟨ p ⟩ 0 → ⊥
   first-apart x xs d h =
       let (i, l, e) = target-only prime xs x h in
       d .apart 0 (suc i) (omega arith) (omega arith) e

@@ -11,3 +11,10 @@ pub mod Interpolation
 pub mod Division
 pub mod Products
 pub mod Blinding
+pub mod Combination
+pub mod Lagrange
+pub mod Consecutive
+pub mod ConsecutiveBasis
+pub mod Without
+pub mod Every
+pub mod Tests

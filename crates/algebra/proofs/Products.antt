@@ -5,6 +5,8 @@ use Prim.Native.Nat.{ℕ, _+_, _*_}
 use native.Mathlib.Nat.{add-comm, zero-add}
 use native.Mathlib.Omega.{arith}
 use Rattle.algebra.specs.Polynomial.{sum, multiple, product, _≋⟨_⟩_}
+use Rattle.algebra.proofs.Congruence.{≈-plus}
+use Rattle.algebra.proofs.Same.{≋-trans}
 use Rattle.algebra.proofs.Weights.{weigh, weights, by-weights, weigh-sum, weigh-multiple, weigh-product, weigh-swap}
 
 pub product-swap : (f g : List ℕ) (φ : ℕ → ℕ) → weigh (product f g) φ ≡ weigh (product g f) φ
@@ -33,3 +35,11 @@ pub product-same : {p : ℕ} (h f g : List ℕ) → f ≋⟨ p ⟩ g → product
 product-same h f g e = by-weights (λ φ.
     rw (product-swap h f φ, product-swap h g φ, weigh-product f h φ, weigh-product g h φ)
     (weights f g e (λ i. weigh h (λ j. φ (i + j)))))
+
+pub products-same : {p : ℕ} {f g h k : List ℕ} → f ≋⟨ p ⟩ g → h ≋⟨ p ⟩ k → product f h ≋⟨ p ⟩ product g k
+products-same {p} {f} {g} {h} {k} e d =
+    ≋-trans (product-same f h k d)
+    (by-weights (λ φ. rw (weigh-product f k φ, weigh-product g k φ) (weights f g e (λ i. weigh k (λ j. φ (i + j))))))
+
+pub sums-same : {p : ℕ} {f g h k : List ℕ} → f ≋⟨ p ⟩ g → h ≋⟨ p ⟩ k → sum f h ≋⟨ p ⟩ sum g k
+sums-same {p} {f} {g} {h} {k} e d = by-weights (λ φ. rw (weigh-sum, weigh-sum) (≈-plus (weights f g e φ) (weights h k d φ)))

@@ -9,19 +9,13 @@ use native.Mathlib.Omega.{arith}
 use lib.ListN.{length, getD}
 use Rattle.algebra.specs.Congruence.{_≈⟨_⟩_}
 use Rattle.algebra.specs.Prime.{Prime}
-use Rattle.algebra.specs.Polynomial.{Each, value, _≋⟨_⟩_}
+use Rattle.algebra.specs.Polynomial.{Each, value, divided, _≋⟨_⟩_}
 use Rattle.algebra.specs.Points.{Distinct, Vanishes}
 use Rattle.algebra.proofs.Congruence.{≈-sym, ≈-plus, ≈-times, zero-or-not, by}
 use Rattle.algebra.proofs.Inverse.{cancel, positive}
 use Rattle.algebra.proofs.Same.{≋-refl}
 use Rattle.algebra.proofs.Difference.{difference, length-difference, difference-value, difference-zero}
 use Rattle.algebra.proofs.Weights.{weigh, weights, by-weights, weigh-times, value-weigh}
-
--- f divided by X − c: each entry is the value at c of what follows it
-unfoldable pub divided : ℕ → List ℕ → List ℕ
-divided c [] = []
-divided c (a ∷ []) = []
-divided c (a ∷ b ∷ f) = value (b ∷ f) c ∷ divided c (b ∷ f)
 
 pub length-divided : (c : ℕ) (f : List ℕ) → length (divided c f) ≡ pred (length f)
 unfolding divided
@@ -50,7 +44,7 @@ distinct-rest d = record { apart = λ i j h k. d .apart (suc i) (suc j) (omega a
 
 module _ {p : ℕ} (prime : Prime p) where
   -- where f is 0 at x and at y, the quotient by X − x is 0 at y
-  divided-zero : {x y : ℕ} (f : List ℕ) → (x ≈⟨ p ⟩ y → ⊥) → value f x ≈⟨ p ⟩ 0 → value f y ≈⟨ p ⟩ 0 → value (divided x f) y ≈⟨ p ⟩ 0
+  pub divided-zero : {x y : ℕ} (f : List ℕ) → (x ≈⟨ p ⟩ y → ⊥) → value f x ≈⟨ p ⟩ 0 → value f y ≈⟨ p ⟩ 0 → value (divided x f) y ≈⟨ p ⟩ 0
   divided-zero {x} {y} f apart fx fy =
       let q = value (divided x f) y in
       let same : x * q ≈⟨ p ⟩ y * q = by (≈-plus fx (≈-sym fy)) (omega (arith, divided-value x f y)) in

@@ -1,8 +1,8 @@
 -- The target: one word more than there are points, the last word 1, and 0 exactly at the points.
-use mathlib.Core.Path.{_≡_, refl}
+use mathlib.Core.Path.{_≡_, refl, _∙_, ap}
 use mathlib.Core.Logic.{⊎-elim}
 use mathlib.Core.List.{List, [], _∷_}
-use Prim.Native.Nat.{ℕ, zero, suc, _+_, _*_, _<_}
+use Prim.Native.Nat.{ℕ, zero, suc, _+_, _*_, _%_, _<_}
 use native.Mathlib.Nat.{mod-eq-of-lt}
 use native.Mathlib.Omega.{arith}
 use lib.ListN.{length, getD, List·getD-eq-default}
@@ -36,15 +36,13 @@ pub target-leading : {p : ℕ} → 1 < p → (xs : List ℕ) → getD (target p 
 unfolding target
 target-leading above [] = refl
 target-leading {p} above (x ∷ xs) =
-    let one : negative p x * 0 + 1 ≡ 1 = omega arith in
     rw (
       coefficient-reduced,
       coefficient-factor,
       target-leading above xs,
       List·getD-eq-default (target p xs) 0 {n = suc (length xs)} (omega (arith, length-target p xs)),
-      one,
     )
-    (mod-eq-of-lt above)
+    (ap (λ (n : ℕ). n % p) (omega arith) ∙ mod-eq-of-lt above)
 
 -- one factor more multiplies the value by s − x
 pub target-value : (p x : ℕ) (xs : List ℕ) (s : ℕ) → value (target p (x ∷ xs)) s ≈⟨ p ⟩ (negative p x + s) * value (target p xs) s

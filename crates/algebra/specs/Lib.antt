@@ -3,3 +3,5 @@ pub mod Prime
 pub mod Polynomial
 pub mod Points
 pub mod Blinding
+pub mod Combination
+pub mod Basis

@@ -2,10 +2,15 @@
 -- Document 01, "Polynomials": target Z(X) is the product of (X − i); a column has as many words as there are points and takes its value at each.
 use mathlib.Core.Path.{_≡_}
 use mathlib.Core.List.{List, [], _∷_}
-use Prim.Native.Nat.{ℕ, _-_, _<_}
+use Prim.Native.Nat.{ℕ, zero, suc, _-_, _<_}
 use lib.ListN.{length, getD}
 use Rattle.algebra.specs.Congruence.{_≈⟨_⟩_, negative}
 use Rattle.algebra.specs.Polynomial.{Each, Words, value, product, reduced, _≋⟨_⟩_}
+
+-- x, x + 1, .., m points in all
+unfoldable pub consecutive : ℕ → ℕ → List ℕ
+consecutive x zero = []
+consecutive x (suc m) = x ∷ consecutive (suc x) m
 
 -- no two points are the same modulo p
 pub record Distinct (p : ℕ) (xs : List ℕ) : Type 0 where

@@ -1,4 +1,4 @@
--- Polynomials as lists of numbers, power 0 first: value, sum, multiple, product, and when two are the same modulo p.
+-- Polynomials as lists of numbers, power 0 first: value, quotient by X − c, sum, multiple, product, and when two are the same modulo p.
 -- Document 01, "Polynomials". All is exact in ℕ: `reduced` alone makes words, and `≋` alone compares modulo p.
 use mathlib.Core.List.{List, [], _∷_}
 use Prim.Native.Nat.{ℕ, _+_, _*_, _%_, _<_}
@@ -13,6 +13,12 @@ Each P f = (i : ℕ) → i < length f → P (getD f i 0)
 unfoldable pub value : List ℕ → ℕ → ℕ
 value [] s = 0
 value (a ∷ f) s = a + s * value f s
+
+-- f divided by X − c: each entry is the value at c of what follows it
+unfoldable pub divided : ℕ → List ℕ → List ℕ
+divided c [] = []
+divided c (a ∷ []) = []
+divided c (a ∷ b ∷ f) = value (b ∷ f) c ∷ divided c (b ∷ f)
 
 unfoldable pub sum : List ℕ → List ℕ → List ℕ
 sum [] g = g

@@ -1,6 +1,6 @@
 -- The verdicts accept exactly well formed assignments and public sections, and then are 0 at place 0.
 use mathlib.Core.List.{List}
-use Prim.Native.Nat.{ℕ, _-_}
+use Prim.Native.Nat.{ℕ, _-_, _+_, _<_}
 use native.Mathlib.Omega.{arith}
 use borrow.Author.Tests.{eq-eqb, eqb-true, le-leb, leb-true}
 use lib.Dec.{leb, lit<}
@@ -12,27 +12,37 @@ use Rattle.field.specs.Field.{p}
 use Rattle.circuit.specs.Circuit.{word}
 use Rattle.circuit.specs.WellFormed.{WellFormed}
 use Rattle.circuit.proofs.Formed.{circuit-formed}
+use Rattle.algebra.specs.Polynomial.{Words}
 use Rattle.assignment.specs.Assignment.{wordsVerdict, valuesVerdict, assignmentVerdict, publicVerdict, circuitThenAssignment, circuitThenPublic}
 use Rattle.assignment.specs.WellFormed.{ValuesFormed, AssignmentFormed, PublicFormed}
 
-abbrev pub each : List ℕ → ℕ → Outcome
-each a i = require (leb (word a i) (p - 1)) 7 i
+abbrev pub each : ℕ → ℕ → List ℕ → ℕ → Outcome
+each number from a i = require (leb (word a i) (p - 1)) number (from + i)
+
+pub words-formed : (number from : ℕ) (a : List ℕ) → 0 < number → Accepted (wordsVerdict number from a) → Words p a
+unfolding wordsVerdict
+words-formed number from a l h = record {
+  below = λ i inside. omega (
+    arith,
+    leb-true (word a i) (p - 1)
+        (require-accepted _ number (from + i) l (accepted-each (each number from a) (length a) h i inside)),
+  );
+}
+
+pub words-accepted : (number from : ℕ) {a : List ℕ} → Words p a → Accepted (wordsVerdict number from a)
+unfolding wordsVerdict
+words-accepted number from {a} w =
+    accepted-first (each number from a) (length a) (λ i l. accepted-require number (from + i) (le-leb (word a i) (p - 1) (omega (arith, w .below i l))))
 
 pub values-formed : (a : List ℕ) → Accepted (valuesVerdict a) → ValuesFormed a
-unfolding valuesVerdict wordsVerdict
+unfolding valuesVerdict
 values-formed a h =
     let one = taken _ _ _ (lit< tt) h in
-    record {
-      one = eqb-true _ _ (one .0);
-      words = record {
-        below = λ i l. omega (arith, leb-true (word a i) (p - 1) (require-accepted _ _ _ (lit< tt) (accepted-each (each a) (length a) (one .1) i l)));
-      };
-    }
+    record { one = eqb-true _ _ (one .0); words = words-formed 7 0 a (lit< tt) (one .1) }
 
 pub values-accepted : {a : List ℕ} → ValuesFormed a → Accepted (valuesVerdict a)
-unfolding valuesVerdict wordsVerdict
-values-accepted {a} f = accepted-both (accepted-require _ _ (eq-eqb _ _ (f .one)))
-    (accepted-first (each a) (length a) (λ i l. accepted-require _ _ (le-leb (word a i) (p - 1) (omega (arith, f .words .below i l)))))
+unfolding valuesVerdict
+values-accepted {a} f = accepted-both (accepted-require _ _ (eq-eqb _ _ (f .one))) (words-accepted 7 0 (f .words))
 
 pub assignment-formed : (c a : List ℕ) → Accepted (assignmentVerdict c a) → AssignmentFormed c a
 unfolding assignmentVerdict
@@ -80,13 +90,13 @@ both-public-formed c a h = let parts = accepted-parts h in (circuit-formed c (pa
 
 ruleset proper = (proper-require, proper-andThen, lit<, tt)
 
-pub proper-words : (a : List ℕ) → Proper (wordsVerdict a)
+pub proper-words : (number from : ℕ) (a : List ℕ) → 0 < number → Proper (wordsVerdict number from a)
 unfolding wordsVerdict
-proper-words a = proper-first (each a) (length a) (λ i l. proper-require _ _ _ (lit< tt))
+proper-words number from a l = proper-first (each number from a) (length a) (λ i inside. proper-require _ number (from + i) l)
 
 proper-values : (a : List ℕ) → Proper (valuesVerdict a)
 unfolding valuesVerdict
-proper-values a = let words = proper-words a in search proper depth 16
+proper-values a = let words = proper-words 7 0 a (lit< tt) in search proper depth 16
 
 pub proper-assignment : (c a : List ℕ) → Proper (assignmentVerdict c a)
 unfolding assignmentVerdict

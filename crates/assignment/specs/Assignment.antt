@@ -19,14 +19,14 @@ weightAt c j = elim (leb j (publics c)) [ true ↦ j | false ↦ j + 1 ]
 abbrev pub weight : List ℕ → List ℕ → ℕ → ℕ
 weight c a j = word a (weightAt c j)
 
--- a value above p − 1
-unfoldable pub wordsVerdict : List ℕ → Outcome
-wordsVerdict a = first (λ i. require (leb (word a i) (p - 1)) 7 i) (length a)
+-- a word above p − 1, at the lowest such index; the list's indices begin with `from`
+unfoldable pub wordsVerdict : ℕ → ℕ → List ℕ → Outcome
+wordsVerdict number from a = first (λ i. require (leb (word a i) (p - 1)) number (from + i)) (length a)
 
 -- 7: the first public value not 1, or a value above p − 1, at the lowest such index. The counts stand among the words;
 -- 6 held them to the circuit's, so they are never above p − 1.
 unfoldable pub valuesVerdict : List ℕ → Outcome
-valuesVerdict a = require (eqb (word a 1) 1) 7 1 andThen wordsVerdict a
+valuesVerdict a = require (eqb (word a 1) 1) 7 1 andThen wordsVerdict 7 0 a
 
 -- 6: the length n + 2, the count q, the count n − q; then 7
 unfoldable pub assignmentVerdict : List ℕ → List ℕ → Outcome

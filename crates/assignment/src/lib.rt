@@ -1,21 +1,22 @@
 // Assignments and public sections: numbers 6 and 7 of document 01's table, and the public section handed out.
 ghost use mathlib.Core.Path.{_≡_};
-ghost use Prim.Native.Nat.{_≤_};
+ghost use Prim.Native.Nat.{_≤_, _<_};
 ghost use lib.ListN.{length};
 ghost use Rattle.circuit.specs.WellFormed.{Formed};
 ghost use Rattle.assignment.specs.Assignment.{wordsVerdict, valuesVerdict, assignmentVerdict, publicVerdict, circuitThenAssignment, circuitThenPublic, publicSection};
 use outcome::Outcome;
 
-// Every word below p.
-fn words_verdict(words: &[u32]) -> Outcome
-    ensures { λ r. ⌜ r ≡ wordsVerdict (now (words .entry)) ⌝ }
+// Every word below p, or the number at the first that is not; the list's indices begin with `from`.
+pub fn words_verdict(words: &[u32], number: u32, from: usize) -> Outcome
+    requires { ⌜ (0 < number) × (from ≤ 16) ⌝ }
+    ensures { λ r. ⌜ r ≡ wordsVerdict number from (now (words .entry)) ⌝ }
 {
     let mut i = 0;
     while i < words.len() {
         if field::MINUS_ONE < words[i] {
             return Outcome {
-                number: 7,
-                place: i,
+                number: number,
+                place: from + i,
             };
         }
         i += 1;
@@ -36,7 +37,7 @@ fn values_verdict(words: &[u32]) -> Outcome
             place: 1,
         };
     }
-    words_verdict(words)
+    words_verdict(words, 7, 0)
 }
 
 // For a caller that has judged the circuit already. Its words may go on after the circuit.

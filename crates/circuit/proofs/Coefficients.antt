@@ -14,7 +14,8 @@ use Rattle.outcome.proofs.Verdict.{within-true}
 use Rattle.field.specs.Field.{p}
 use Rattle.circuit.specs.Circuit.{rows, columns, entries, rowOf, columnOf, valueOf, section, isAt, listed, coef}
 use Rattle.circuit.specs.WellFormed.{SectionFormed, Formed}
-use Rattle.circuit.specs.Totals.{total, only}
+use Rattle.algebra.specs.Combination.{total}
+use Rattle.circuit.specs.Totals.{only}
 use Rattle.circuit.proofs.Totals.{total-same, total-swap, total-pick}
 use Rattle.circuit.proofs.Entries.{at-place, one-only, row-entries}
 

@@ -13,7 +13,8 @@ use Rattle.outcome.specs.Verdict.{within}
 use Rattle.circuit.specs.Circuit.{columns, entries, rowOf, columnOf, valueOf, isAt, listed}
 use Rattle.circuit.specs.Reader.{above}
 use Rattle.circuit.specs.WellFormed.{SectionFormed}
-use Rattle.circuit.specs.Totals.{total, only}
+use Rattle.algebra.specs.Combination.{total}
+use Rattle.circuit.specs.Totals.{only}
 use Rattle.circuit.proofs.Totals.{total-same, total-zero, total-times, total-swap, total-pick}
 
 true-or-false : {A : Type 0} → true ≡ false → A

@@ -9,7 +9,8 @@ use borrow.Author.Tests.{eq-eqb, ne-eqb, leb-true, leb-false}
 use lib.Dec.{eqb, leb}
 use lib.ListN.{length, getD}
 use Rattle.outcome.specs.Verdict.{within}
-use Rattle.circuit.specs.Totals.{total, table, only}
+use Rattle.algebra.specs.Combination.{total}
+use Rattle.circuit.specs.Totals.{table, only}
 
 pub total-same : (f g : ℕ → ℕ) (k : ℕ) → ((i : ℕ) → i < k → f i ≡ g i) → total f k ≡ total g k
 unfolding total

@@ -5,6 +5,7 @@ use mathlib.Core.List.{List, [], _∷_}
 use Prim.Native.Nat.{ℕ, zero, suc, _+_, _*_}
 use lib.Dec.{eqb}
 use lib.ListN.{getD}
+use Rattle.algebra.specs.Points.{consecutive}
 
 -- the word at an index, counted from 0
 abbrev pub word : List ℕ → ℕ → ℕ
@@ -21,14 +22,9 @@ publics c = word c 1
 abbrev pub columns : List ℕ → ℕ
 columns c = word c 2
 
--- from + 1, from + 2, .., from + size
-unfoldable pub upTo : ℕ → ℕ → List ℕ
-upTo from zero = []
-upTo from (suc size) = suc from ∷ upTo (suc from) size
-
 -- a row's point is its number: 1, 2, .., m
 abbrev pub points : List ℕ → List ℕ
-points c = upTo 0 (rows c)
+points c = consecutive 1 (rows c)
 
 -- A section is named by the index of its count of entries.
 abbrev pub entries : List ℕ → ℕ → ℕ

@@ -2,3 +2,4 @@ pub mod Circuit
 pub mod Reader
 pub mod WellFormed
 pub mod Totals
+pub mod Column

@@ -3,11 +3,6 @@ use mathlib.Core.Bool.{Bool, true, false}
 use mathlib.Core.List.{List, [], _∷_}
 use Prim.Native.Nat.{ℕ, zero, suc, _+_}
 
--- f 0 + f 1 + .. + f (k − 1)
-unfoldable pub total : (ℕ → ℕ) → ℕ → ℕ
-total f zero = 0
-total f (suc k) = total f k + f k
-
 -- the list f 0, f 1, .., f (k − 1)
 unfoldable pub table : (ℕ → ℕ) → ℕ → List ℕ
 table f zero = []

@@ -1,2 +1,4 @@
-// Circuits and assignments: reading, refusing and meaning (document 01, "Circuit words" and "Assignment words").
+// Circuits: reading, refusing and meaning (document 01, "Circuit words").
+pub mod column;
+pub mod counts;
 pub mod reader;

@@ -1,2 +1,1 @@
 pub mod PrimeField
-pub mod Every

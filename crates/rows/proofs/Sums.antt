@@ -6,37 +6,22 @@ use mathlib.Core.Path.{_≡_, refl, sym, _∙_, ap}
 use Prim.Native.Nat.{ℕ, suc, _+_, _*_, _-_, _%_, _≤_, _<_}
 use native.Mathlib.Numerals.{add-one}
 use native.Mathlib.Omega.{arith}
-use borrow.Author.Tests.{eq-eqb, ne-eqb, eqb-true, eqb-false}
+use borrow.Author.Tests.{eq-eqb, ne-eqb}
 use lib.Dec.{eqb}
-use lib.ListN.{length, getD, set, length-set}
-use lib.Seq.{ext-getD, getD-set-same, getD-set-other}
+use lib.ListN.{length, set}
 use Rattle.outcome.specs.Verdict.{within, Within}
 use Rattle.field.specs.Field.{p}
 use Rattle.algebra.proofs.Congruence.{≈-plus, ≈-reduced, ≈-refl}
 use Rattle.circuit.specs.Circuit.{word, rows, entries, rowOf, columnOf, valueOf, section, coef}
 use Rattle.circuit.specs.WellFormed.{Formed}
-use Rattle.circuit.specs.Totals.{total, table, only}
+use Rattle.algebra.specs.Combination.{total}
+use Rattle.circuit.specs.Totals.{table, only}
 use Rattle.circuit.proofs.Totals.{length-table, table-at}
+use Rattle.circuit.proofs.Tables.{table-same, set-table}
 use Rattle.circuit.proofs.Entries.{row-entries}
 use Rattle.assignment.specs.Assignment.{weight}
 use Rattle.rows.specs.Rows.{rowSum, rowSums}
 use Rattle.rows.specs.Sums.{entryPart, entrySums, withEntry}
-
-pub table-same : (f g : ℕ → ℕ) (m : ℕ) → ((i : ℕ) → i < m → f i ≡ g i) → table f m ≡ table g m
-table-same f g m h = ext-getD 0 (table f m) (table g m) (length-table f m ∙ sym (length-table g m))
-    (λ i l. let below : i < m = rw (length-table f m) at l in table-at f m i below ∙ h i below ∙ sym (table-at g m i below))
-
-set-table : (f g : ℕ → ℕ) (m r x : ℕ) → r < m → g r ≡ x → ((i : ℕ) → i < m → (i ≡ r → ⊥) → g i ≡ f i) → set (table f m) r x ≡ table g m
-set-table f g m r x l here others = ext-getD 0 (set (table f m) r x) (table g m)
-    (length-set (table f m) r x ∙ length-table f m ∙ sym (length-table g m))
-    (λ i h. let below : i < m = rw (length-set (table f m) r x, length-table f m) at h in at i below (eqb i r) refl)
-  where
-    at : (i : ℕ) → i < m → (b : Bool) → eqb i r ≡ b → getD (set (table f m) r x) i 0 ≡ getD (table g m) i 0
-    at i below true e =
-        rw (eqb-true i r e) (getD-set-same (table f m) r x 0 (rw (length-table f m) l) ∙ sym here ∙ sym (table-at g m r l))
-    at i below false e =
-        getD-set-other (table f m) r i x 0 (eqb-false i r e) ∙ table-at f m i below
-        ∙ sym (others i below (eqb-false i r e)) ∙ sym (table-at g m i below)
 
 module _ (c : List ℕ) (s : ℕ) (a : List ℕ) (from to e : ℕ) where
   -- what the entry adds where its column counts

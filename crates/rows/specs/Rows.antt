@@ -8,7 +8,8 @@ use Rattle.outcome.specs.declared.Outcome.{Outcome}
 use Rattle.outcome.specs.Verdict.{require, Within, first}
 use Rattle.field.specs.Field.{p}
 use Rattle.circuit.specs.Circuit.{rows, publics, columns, coef}
-use Rattle.circuit.specs.Totals.{total, table}
+use Rattle.algebra.specs.Combination.{total}
+use Rattle.circuit.specs.Totals.{table}
 use Rattle.assignment.specs.Assignment.{weight}
 
 -- the sum of w_j a(i,j) over the columns after `from` up to `to`, exact

@@ -9,7 +9,8 @@ use Rattle.outcome.specs.declared.Outcome.{Outcome}
 use Rattle.outcome.specs.Verdict.{require, within, first}
 use Rattle.field.specs.Field.{p}
 use Rattle.circuit.specs.Circuit.{word, rows, columns, rowOf, columnOf, valueOf}
-use Rattle.circuit.specs.Totals.{total, table, only}
+use Rattle.algebra.specs.Combination.{total}
+use Rattle.circuit.specs.Totals.{table, only}
 use Rattle.assignment.specs.Assignment.{weightAt, weight}
 use Rattle.rows.specs.Rows.{rowSums, rowsVerdict}
 

@@ -22,16 +22,6 @@ fn weight_at(circuit: &[u32], column: usize) -> usize
     column + 1
 }
 
-fn clear(out: &mut [u32])
-    ensures { λ _. ⌜ now (out .exit) ≡ table (λ i. 0) (length (now (out .entry))) ⌝ }
-{
-    let mut i = 0;
-    while i < out.len() {
-        out[i] = 0;
-        i += 1;
-    }
-}
-
 // Entry e of the section whose count stands at `start`, added to its row where its column counts.
 fn add_entry(
     circuit: &[u32],
@@ -93,7 +83,7 @@ pub fn row_sums(
     ensures { λ _. ⌜ now (out .exit) ≡ rowSums (now (circuit .entry)) (now (values .entry)) matrix from to ⌝ }
 {
     let start = circuit::reader::section_start(circuit, matrix);
-    clear(out);
+    slices::clear(out);
     add_entries(circuit, start, values, from, to, out);
 }
 

@@ -3,6 +3,7 @@ use mathlib.Core.Path.{_∙_, ap}
 use borrow.Author.Needs.{needs}
 use Rattle.circuit.specs.Totals.{table}
 use Rattle.rows.proofs.Sums.{all-entries}
+use Rattle.circuit.proofs.Tables.{table-zero}
 use Rattle.rows.proofs.row_sums.Statement.{statement}
 use Rattle.rows.proofs.row_sums.Tie as tie
 
@@ -11,7 +12,7 @@ add-entries-requires c κs =
     let entry = c .before .before .before .before .before .before .before .before .before in
     let begins = c .before .before .before .before .before .section-start .ensures in (
       (entry .pre .0, rw begins (entry .pre .0 .matrices (entry .args .matrix) (entry .pre .1))),
-      (entry .pre .2, c .before .before .before .clear .ensures ∙ ap (table (λ i. 0)) (entry .pre .3)),
+      (entry .pre .2, c .before .before .before .clear .ensures ∙ table-zero _ ∙ ap (table (λ i. 0)) (entry .pre .3)),
     )
 
 returns : tie.Need-returns

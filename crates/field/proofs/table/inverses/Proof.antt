@@ -8,7 +8,7 @@ use lib.Dec.{T, ltb, eqb, ltb→lt, eqb→eq}
 use lib.ListN.{length, getD}
 use Rattle.algebra.specs.Congruence.{Inverse}
 use Rattle.field.specs.Field.{p, InverseTable}
-use Rattle.field.proofs.Every.{both, every, at}
+use Rattle.algebra.proofs.Every.{both, every, at}
 use Rattle.field.proofs.table.inverses.Statement.{statement}
 use Rattle.field.proofs.table.inverses.Tie as tie
 

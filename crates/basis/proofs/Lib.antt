@@ -1,0 +1,4 @@
+pub mod WeightLaws
+pub mod PassLaws
+pub mod ColumnLaws
+pub mod OneAnswer

@@ -1,0 +1,74 @@
+// The calls of document 01. None asks anything of its input: what is wrong gets the numbered refusal, and a refused
+// call changes no word lent to it.
+ghost use mathlib.Core.Path.{_≡_};
+ghost use lib.ListN.{length};
+ghost use Rattle.outcome.specs.Verdict.{Accepted};
+ghost use Rattle.algebra.specs.Points.{consecutive, target};
+ghost use Rattle.field.specs.Field.{p};
+ghost use Rattle.qap.specs.Refusals.{targetVerdict};
+ghost use Rattle.qap.specs.Calls.{TargetCall, ColumnCall, ColumnsCall};
+use outcome::Outcome;
+
+pub mod matrix;
+
+fn target_verdict(m: u32, size: usize) -> Outcome
+    ensures { λ r. ⌜ r ≡ targetVerdict m size ⌝ }
+{
+    if m < 1 {
+        return Outcome {
+            number: 2,
+            place: 0,
+        };
+    }
+    if 256 < m {
+        return Outcome {
+            number: 2,
+            place: 0,
+        };
+    }
+    refusals::length_verdict(size, m as usize + 1)
+}
+
+fn fill_target(m: u32, out: &mut [u32])
+    requires { ⌜ Accepted (targetVerdict m (length (now out))) ⌝ }
+    ensures { λ _. ⌜ now (out .exit) ≡ target p (consecutive 1 m) ⌝ }
+{
+    poly::target(out);
+}
+
+// The target of m rows, into m + 1 words.
+pub fn target(m: u32, out: &mut [u32]) -> Outcome
+    ensures { λ r. ⌜ TargetCall m (now (out .entry)) (now (out .exit)) r ⌝ }
+{
+    let verdict = target_verdict(m, out.len());
+    if verdict.number != 0 {
+        return verdict;
+    }
+    fill_target(m, out);
+    verdict
+}
+
+// One column of matrix 0, 1 or 2, into as many words as there are rows.
+pub fn column(circuit: &[u32], matrix: u32, column: u32, out: &mut [u32]) -> Outcome
+    ensures { λ r. ⌜ ColumnCall (now (circuit .entry)) matrix column (now (out .entry)) (now (out .exit)) r ⌝ }
+{
+    let verdict = matrix::column_verdict(circuit, matrix, column, out.len());
+    if verdict.number != 0 {
+        return verdict;
+    }
+    matrix::fill_columns(circuit, matrix as usize, column, 1, out);
+    verdict
+}
+
+// All columns of a matrix, one after the other.
+pub fn columns(circuit: &[u32], matrix: u32, out: &mut [u32]) -> Outcome
+    ensures { λ r. ⌜ ColumnsCall (now (circuit .entry)) matrix (now (out .entry)) (now (out .exit)) r ⌝ }
+{
+    let verdict = matrix::columns_verdict(circuit, matrix, out.len());
+    if verdict.number != 0 {
+        return verdict;
+    }
+    let n = circuit::counts::columns_of(circuit);
+    matrix::fill_columns(circuit, matrix as usize, 1, n, out);
+    verdict
+}

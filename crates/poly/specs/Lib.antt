@@ -1,0 +1,5 @@
+pub mod AddScaled
+pub mod Factor
+pub mod Product
+pub mod Division
+pub mod Interpolation

@@ -1,0 +1,10 @@
+pub mod Parts
+pub mod Quotients
+pub mod AnswerLaws
+pub mod Determined
+pub mod Settings
+pub mod Filling
+pub mod Demand3
+pub mod Demand2
+pub mod Marked
+pub mod Columns

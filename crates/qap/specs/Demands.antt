@@ -1,0 +1,41 @@
+-- What demand 3 speaks of: exactly one blinder triple, the first three answers, and the fourth as what follows from them.
+-- Document 00, demand 3, over the definitions of specs/Answers.antt.
+use mathlib.Core.Path.{_≡_}
+use mathlib.Core.List.{List}
+use Prim.Native.Nat.{ℕ, _<_, _≤_}
+use Rattle.field.specs.Field.{p}
+use Rattle.circuit.specs.Circuit.{publics}
+use Rattle.assignment.specs.Assignment.{weight}
+use Rattle.qap.specs.Answers.{IsAnswers, AnswersAgree}
+use Rattle.qap.specs.declared.Blinders.{Blinders}
+use Rattle.qap.specs.declared.FourAnswers.{FourAnswers}
+
+-- one and no other
+pub record Exactly (A : Type 0) (P : A → Type 0) : Type 0 where
+  pub one : A
+  pub has : P one
+  pub no-other : (x : A) → P x → x ≡ one
+
+pub record BlinderWords (d : Blinders) : Type 0 where
+  pub first : d .first < p
+  pub second : d .second < p
+  pub third : d .third < p
+
+-- field words as blinders, under which the answers to s are r
+pub record Answered (c a : List ℕ) (s : ℕ) (r : FourAnswers) (d : Blinders) : Type 0 where
+  pub words : BlinderWords d
+  pub answers : IsAnswers c a d s r
+
+-- field words as blinders, under which the first three answers are v1, v2, v3, whatever the fourth
+pub record FirstThree (c a : List ℕ) (s v1 v2 v3 : ℕ) (d : Blinders) : Type 0 where
+  pub fourth : ℕ
+  pub answered : Answered c a s (record { first = v1; second = v2; third = v3; fourth = fourth }) d
+
+-- the word w makes the answer check's equality true beside the first three: it is stated of circuit, public values and point alone
+pub record IsFourth (c b : List ℕ) (s v1 v2 v3 w : ℕ) : Type 0 where
+  pub word : w < p
+  pub agrees : AnswersAgree c b s (record { first = v1; second = v2; third = v3; fourth = w })
+
+-- two assignments, or an assignment and a public section, have the same public values
+pub record SamePublic (c a b : List ℕ) : Type 0 where
+  pub weights : (j : ℕ) → 1 ≤ j → j ≤ publics c → weight c a j ≡ weight c b j

@@ -1,0 +1,6 @@
+pub mod Polynomials
+pub mod Answers
+pub mod Refusals
+pub mod Calls
+pub mod Demands
+pub mod Marked

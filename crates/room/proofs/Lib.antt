@@ -1,0 +1,4 @@
+pub mod RoomLaws
+pub mod BlindedLaws
+pub mod QuotientLaws
+pub mod WholeLaws

@@ -1,0 +1,17 @@
+-- A list of words that is A' = A + d Z, for the A that takes given values at the points.
+-- Document 01, "Polynomials".
+use mathlib.Core.Path.{_≡_}
+use mathlib.Core.List.{List}
+use Prim.Native.Nat.{ℕ, suc}
+use lib.ListN.{length}
+use Rattle.algebra.specs.Polynomial.{Words, _≋⟨_⟩_}
+use Rattle.algebra.specs.Points.{Through}
+use Rattle.algebra.specs.Blinding.{blinded}
+use Rattle.field.specs.Field.{p}
+
+pub record BlindedThrough (xs : List ℕ) (y : ℕ → ℕ) (d : ℕ) (g : List ℕ) : Type 0 where
+  pub plain : List ℕ
+  pub through : Through p xs y plain
+  pub size : length g ≡ suc (length xs)
+  pub words : Words p g
+  pub same : g ≋⟨ p ⟩ blinded p xs plain d

@@ -1,0 +1,3 @@
+pub mod Room
+pub mod Blinded
+pub mod Sides

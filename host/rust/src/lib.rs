@@ -1,0 +1,20 @@
+//! The row prover a second time, from document 01 alone and by other methods than the product's: it is what
+//! the product is compared with, so it is written to be read, and shares no code with it.
+//!
+//! Bottom up: `field`, `poly`, `qap` are the mathematics; `refusal`, `circuit`, `assignment` read words;
+//! `calls`, `job`, `exported` are document 01's calls, program and exported functions. `linear` is the
+//! best-known method for the two exported functions, for benchmarks. `jobs` makes inputs, `harness` compares.
+
+pub mod assignment;
+pub mod calls;
+pub mod circuit;
+pub mod exported;
+pub mod field;
+pub mod harness;
+pub mod job;
+pub mod jobs;
+pub mod linear;
+pub mod poly;
+pub mod qap;
+pub mod refusal;
+pub mod words;
