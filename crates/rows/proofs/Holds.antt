@@ -14,7 +14,7 @@ use Rattle.field.specs.Field.{p}
 use Rattle.circuit.specs.Circuit.{rows, columns}
 use Rattle.circuit.proofs.Totals.{length-table, table-at}
 use Rattle.rows.specs.Rows.{rowSums, wholeSum, RowHolds, RowsHold, FailsFirst, rowVerdict, rowsVerdict, lowestFailing}
-use Rattle.rows.specs.Sums.{sumsVerdict}
+use Rattle.rows.specs.Sums.{sumsVerdict, RowsRead}
 
 -- the verdict over the lists of sums is the one over the rows
 pub sums-rows : (c a : List ℕ) →
@@ -85,3 +85,8 @@ module _ (c a : List ℕ) where
       (λ (good : Accepted (rowsVerdict c a)). accepted-holds good)
       (λ (bad : Refused (rowsVerdict c a)). absurd (omega (arith, lowest-fails bad .1 .row .at-least)))
       (accepted-or-refused (rowsVerdict c a))
+
+-- any two results that the contract of rows_verdict admits are equal
+pub one-result : {c w a b d a′ b′ d′ : List ℕ} {r r′ : Outcome} → RowsRead c w a b d r → RowsRead c w a′ b′ d′ r′ →
+    (a ≡ a′) × (b ≡ b′) × (d ≡ d′) × (r ≡ r′)
+one-result h k = (h .sums-a ∙ sym (k .sums-a), h .sums-b ∙ sym (k .sums-b), h .sums-c ∙ sym (k .sums-c), h .outcome ∙ sym (k .outcome))

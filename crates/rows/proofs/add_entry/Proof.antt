@@ -30,10 +30,10 @@ module _ (c : List ℕ) (s : ℕ) (a : List ℕ) (from to e : ℕ) (xs : List �
   counted h k = rw (withEntry, le-leb (suc from) (columnOf c s e) h, le-leb (columnOf c s e) to k)
 
 returns : tie.Need-returns
-returns c = sym (too-low _ _ _ _ _ _ _ (c .if1 .taken))
+returns c = sym (too-low _ _ _ _ _ _ _ (search needs))
 
 returns-2 : tie.Need-returns-2
-returns-2 c = sym (too-high _ _ _ _ _ _ _ (c .before .if1 .left) (c .if2 .taken))
+returns-2 c = sym (too-high _ _ _ _ _ _ _ (search needs) (search needs))
 
 -- the value's index is inside: its column is at most `to`
 inside : (c : tie.After-weight-at) → c .weight-at .result < length (c .before .before .before .before .before .before .before .before .args .values .now)
