@@ -1,5 +1,5 @@
 -- The room is made of an accepted circuit and assignment; where the rows hold, its quotient is the definition's.
-use mathlib.Core.Path.{_≡_, sym, _∙_, ap}
+use mathlib.Core.Path.{_≡_, _∙_}
 use mathlib.Core.List.{List}
 use Prim.Native.Nat.{ℕ, _-_}
 use native.Mathlib.Omega.{arith}

@@ -1,12 +1,8 @@
 -- The checks in their order; rows are judged beside a circuit and an assignment that were accepted.
-use mathlib.Core.Path.{_≡_, _∙_, ap}
-use Prim.Native.Nat.{_+_}
 use native.Mathlib.Omega.{arith}
 use borrow.Author.Needs.{needs}
-use lib.ListN.{length}
 use Rattle.outcome.proofs.Chain.{calls}
 use Rattle.outcome.proofs.Verdict.{is-accepted}
-use Rattle.circuit.specs.WellFormed.{Formed}
 use Rattle.circuit.proofs.Formed.{circuit-formed}
 use Rattle.assignment.proofs.Accepted.{assignment-formed}
 use Rattle.qap.specs.Refusals.{quotientVerdict}
