@@ -29,7 +29,7 @@ filled-once {verdict} only {new} {new'} s t = (
 )
 
 -- numbers that cannot be unequal are equal
-stable : (m n : ℕ) → ((m ≡ n → ⊥) → ⊥) → m ≡ n
+pub stable : (m n : ℕ) → ((m ≡ n → ⊥) → ⊥) → m ≡ n
 stable m n h = elim (ℕ-discrete m n) [ yes e ↦ e | no e ↦ absurd (h e) ]
 
 -- a check: whether the equality holds need not be decided to see that two results agree

@@ -8,3 +8,4 @@ pub mod Demand3
 pub mod Demand2
 pub mod Marked
 pub mod Columns
+pub mod Checks
