@@ -9,3 +9,5 @@ pub mod Demand2
 pub mod Marked
 pub mod Columns
 pub mod Checks
+pub mod OneResult
+pub mod Given
