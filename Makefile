@@ -3,8 +3,8 @@
 .PHONY: run test bench
 
 run:
-	rt check field_run
-	target/bin/field_run
+	rt check marked_run
+	target/bin/marked_run
 
 test:
 	bash .ci/run
