@@ -64,7 +64,8 @@ module _ (c a : List ℕ) (d : Blinders) (s : ℕ) (r : FourAnswers) (call : Ans
   section-accepts = accepted-both (ready .given .circuit)
       (accepted-both (section-accepted c a read) (accepted-both (words-accepted 12 0 (answer-words answered)) (ready .point)))
 
-  same-section : SamePublic c a (publicSection c a)
+  -- the section that is handed out has the same public values
+  pub same-section : SamePublic c a (publicSection c a)
   unfolding publicSection
   same-section = record {
     weights = λ j low high. rw (written-new (take (publics c + 1) a) _ read)

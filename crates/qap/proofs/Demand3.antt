@@ -55,7 +55,7 @@ module _ (c a : List ℕ) (distinct : Distinct p (points c)) (s : ℕ) (off : va
         has = record {
           fourth = value H s % p;
           answered = record {
-            words = record { first = b1; second = b2; third = b3 };
+            words = record { first = omega (arith, b1); second = omega (arith, b2); third = omega (arith, b3) };
             answers = record {
               A = A;
               B = B;
@@ -75,9 +75,9 @@ module _ (c a : List ℕ) (distinct : Distinct p (points c)) (s : ℕ) (off : va
         no-other = λ x h.
             let w = h .answered .words in
             let r = h .answered .answers in
-            let one = same-blinder v1 (r .private-A) private-A (w .first) b1 (r .first) e1 in
-            let two = same-blinder v2 (r .private-B) private-B (w .second) b2 (r .second) e2 in
-            let three = same-blinder v3 (r .private-C) private-C (w .third) b3 (r .third) e3 in
+            let one = same-blinder v1 (r .private-A) private-A (omega (arith, w .first)) b1 (r .first) e1 in
+            let two = same-blinder v2 (r .private-B) private-B (omega (arith, w .second)) b2 (r .second) e2 in
+            let three = same-blinder v3 (r .private-C) private-C (omega (arith, w .third)) b3 (r .third) e3 in
             λ i. record { first = one i; second = two i; third = three i };
       }
 
@@ -90,6 +90,28 @@ module _ (c a : List ℕ) (distinct : Distinct p (points c)) (s : ℕ) (off : va
       let same-C = part-unique c a 2 0 (publics c) distinct (k .agrees .public-C) (h .agrees .public-C) in
       let other = rw (same-A, same-B, same-C) at (k .agrees .equal) in
       ≈-words (cancel p-prime z off (by (≈-plus (≈-sym (h .agrees .equal)) other) (omega arith))) (h .word) (k .word)
+
+  -- and there is one, whatever the first three: it takes circuit, public values and point alone
+  pub only-fourth : (v1 v2 v3 : ℕ) → Exactly ℕ (IsFourth c a s v1 v2 v3)
+  only-fourth v1 v2 v3 =
+      let (A, public-A) = part-exists c a 0 0 (publics c) distinct in
+      let (B, public-B) = part-exists c a 1 0 (publics c) distinct in
+      let (C, public-C) = part-exists c a 2 0 (publics c) distinct in
+      let z = value (targetOf c) s in
+      let (w, word, e) = solve p-prime z off (v3 + value C s) ((v1 + value A s) * (v2 + value B s)) in
+      let agrees : IsFourth c a s v1 v2 v3 w = record {
+        word = word;
+        agrees = record {
+          A = A;
+          B = B;
+          C = C;
+          public-A = public-A;
+          public-B = public-B;
+          public-C = public-C;
+          equal = by (≈-sym e) (omega arith);
+        };
+      } in
+      record { one = w; has = agrees; no-other = λ x h. one-fourth h agrees }
 
 -- the fourth answer is the one word that follows from circuit, public values, point and the first three
 pub fourth-follows : (c a b : List ℕ) (distinct : Distinct p (points c)) → publics c ≤ columns c → SamePublic c a b → {d : Blinders} {s : ℕ} {r : FourAnswers} →

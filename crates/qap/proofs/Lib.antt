@@ -11,3 +11,5 @@ pub mod Columns
 pub mod Checks
 pub mod OneResult
 pub mod Given
+pub mod PlaceZero
+pub mod Demand3Calls

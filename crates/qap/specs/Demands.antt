@@ -1,12 +1,17 @@
 -- What demand 3 speaks of: exactly one blinder triple, the first three answers, and the fourth as what follows from them.
--- Document 00, demand 3, over the definitions of specs/Answers.antt.
+-- Document 00, demand 3, over the definitions of specs/Answers.antt and the answers call's record in specs/Calls.antt.
 use mathlib.Core.Path.{_≡_}
 use mathlib.Core.List.{List}
 use Prim.Native.Nat.{ℕ, _<_, _≤_}
+use Rattle.outcome.specs.Verdict.{Accepted, fine}
 use Rattle.field.specs.Field.{p}
 use Rattle.circuit.specs.Circuit.{publics}
-use Rattle.assignment.specs.Assignment.{weight}
+use Rattle.circuit.specs.Reader.{circuitVerdict}
+use Rattle.assignment.specs.Assignment.{weight, assignmentVerdict}
+use Rattle.rows.specs.Rows.{RowsHold}
 use Rattle.qap.specs.Answers.{IsAnswers, AnswersAgree}
+use Rattle.qap.specs.Refusals.{pointVerdict}
+use Rattle.qap.specs.Calls.{AnswersCall}
 use Rattle.qap.specs.declared.Blinders.{Blinders}
 use Rattle.qap.specs.declared.FourAnswers.{FourAnswers}
 
@@ -39,3 +44,19 @@ pub record IsFourth (c b : List ℕ) (s v1 v2 v3 w : ℕ) : Type 0 where
 -- two assignments, or an assignment and a public section, have the same public values
 pub record SamePublic (c a b : List ℕ) : Type 0 where
   pub weights : (j : ℕ) → 1 ≤ j → j ≤ publics c → weight c a j ≡ weight c b j
+
+-- what demand 3 asks of circuit, assignment and point: accepted, every row satisfied, a field point on no row
+pub record Satisfied (c a : List ℕ) (s : ℕ) : Type 0 where
+  pub circuit : Accepted (circuitVerdict c)
+  pub assignment : Accepted (assignmentVerdict c a)
+  pub rows-hold : RowsHold c a
+  pub point : Accepted (pointVerdict c s)
+
+-- the answers call is done under these blinders and gives r
+abbrev pub Gives : List ℕ → List ℕ → ℕ → FourAnswers → Blinders → Type 0
+Gives c a s r d = AnswersCall c a d s fine r
+
+-- it is done, and the first three that it gives are v1, v2, v3, whatever the fourth
+pub record GivesThree (c a : List ℕ) (s v1 v2 v3 : ℕ) (d : Blinders) : Type 0 where
+  pub fourth : ℕ
+  pub gives : Gives c a s (record { first = v1; second = v2; third = v3; fourth = fourth }) d
