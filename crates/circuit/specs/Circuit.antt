@@ -4,7 +4,7 @@ use mathlib.Core.Bool.{Bool, true, false, _&&_}
 use mathlib.Core.List.{List, [], _∷_}
 use Prim.Native.Nat.{ℕ, zero, suc, _+_, _*_}
 use lib.Dec.{eqb}
-use lib.ListN.{getD}
+use lib.ListN.{getD, take}
 use Rattle.algebra.specs.Points.{consecutive}
 
 -- the word at an index, counted from 0
@@ -54,6 +54,10 @@ section c (suc matrix) = sectionEnd c (section c matrix)
 -- where the words of a circuit end
 abbrev pub ending : List ℕ → ℕ
 ending c = section c 3
+
+-- words that begin with a circuit: the part of them that it takes
+abbrev pub leading : List ℕ → List ℕ
+leading c = take (ending c) c
 
 -- entry e is listed at row i, column j
 abbrev pub isAt : List ℕ → ℕ → ℕ → ℕ → ℕ → Bool
