@@ -1,0 +1,28 @@
+-- Numbers as lines of text, bytes as ASCII codes: 48 is the digit 0, 32 a space, 10 a newline.
+-- Document 01, "The program and one run whole": decimals, one space between, newline after each line.
+use mathlib.Core.Bool.{true, false}
+use mathlib.Core.List.{List, [], _∷_, _++_}
+use mathlib.Core.Path.{_≡_}
+use Prim.Native.Nat.{ℕ, zero, suc, _+_, _/_, _%_, _≤_}
+use lib.Dec.{ltb}
+use lib.ListN.{take}
+
+-- the digits of n, highest first, by at most k divisions
+unfoldable pub digits : ℕ → ℕ → List ℕ
+digits zero n = (48 + n) ∷ []
+digits (suc k) n = elim (ltb n 10) [ true ↦ (48 + n) ∷ [] | false ↦ digits k (n / 10) ++ ((48 + n % 10) ∷ []) ]
+
+-- n divisions are enough
+unfoldable pub decimal : ℕ → List ℕ
+decimal n = digits n n
+
+-- a line: one space between, a newline at the end; without a number it is the newline alone
+unfoldable pub line : List ℕ → List ℕ
+line [] = 10 ∷ []
+line (w ∷ []) = decimal w ++ (10 ∷ [])
+line (w ∷ v ∷ ws) = decimal w ++ 32 ∷ line (v ∷ ws)
+
+-- the text up to `end` is the earlier text up to `at` with `new` behind it, and `new` took at most `room` bytes
+pub record Appended (before : List ℕ) (at : ℕ) (new : List ℕ) (room : ℕ) (after : List ℕ) (end : ℕ) : Type 0 where
+  pub text : take end after ≡ take at before ++ new
+  pub within : end ≤ at + room
