@@ -61,7 +61,7 @@ pub fn point_verdict(circuit: &[u32], s: u32) -> Outcome
 }
 
 // 12 over the three blinders.
-fn blinders_verdict(d: Blinders) -> Outcome
+pub fn blinders_verdict(d: Blinders) -> Outcome
     ensures { λ r. ⌜ r ≡ wordsVerdict 12 0 (blinderWords d) ⌝ }
 {
     let words = [d.first, d.second, d.third];
