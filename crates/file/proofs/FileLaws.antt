@@ -1,12 +1,12 @@
 -- What an accepted file has: each check that its parts passed, where they end, and that the calls on them would accept too.
 use mathlib.Core.List.{List}
 use mathlib.Core.Logic.{⊎-elim}
-use mathlib.Core.Path.{_≡_, refl, sym, _∙_, ap}
+use mathlib.Core.Path.{_≡_, refl, sym, _∙_}
 use Prim.Native.Nat.{ℕ, _+_, _-_, _≤_}
 use native.Mathlib.Omega.{arith}
 use borrow.Author.Tests.{eqb-true}
 use lib.Dec.{lit<}
-use lib.ListN.{length, take, drop, length-take, length-drop}
+use lib.ListN.{length, take, drop, length-drop}
 use lib.Seq.{take-all, length-take-le}
 use Rattle.outcome.specs.Verdict.{Accepted, Refused, _andThen_}
 use Rattle.outcome.proofs.Verdict.{accepted-or-refused, accepted-both, accepted-parts, taken}

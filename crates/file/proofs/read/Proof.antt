@@ -1,6 +1,6 @@
 -- A circuit that was refused decides; else the words up to its end are one, and what follows it decides.
 use mathlib.Core.List.{List}
-use mathlib.Core.Path.{_≡_, refl, sym, _∙_, ap}
+use mathlib.Core.Path.{_≡_, sym, _∙_, ap}
 use Prim.Native.Nat.{ℕ, _+_, _-_, _≤_}
 use native.Mathlib.Omega.{arith}
 use borrow.Author.Needs.{needs}
@@ -18,9 +18,9 @@ use Rattle.circuit.proofs.Prefix.{leading-count, leading-formed}
 use Rattle.circuit.proofs.Sections.{ends-within}
 use Rattle.file.specs.File.{remainder, blindersOf, pointOf, fileVerdict}
 use Rattle.file.specs.Parts.{blindersIn, restVerdict}
-use Rattle.file.specs.Read.{Parted, Read, refused}
+use Rattle.file.specs.Read.{Read, refused}
 use Rattle.file.specs.declared.Job.{Job}
-use Rattle.file.proofs.FileLaws.{file-parts, up-to-the-end, Ends, ends}
+use Rattle.file.proofs.FileLaws.{file-parts, up-to-the-end, ends}
 use Rattle.file.proofs.read.Statement.{statement}
 use Rattle.file.proofs.read.Tie as tie
 
@@ -99,7 +99,6 @@ returns-3 c =
     let counted = c .before .before .before in
     let last = end counted .0 in
     let verdict = found (counted .before .before .before) in
-    let fine = accepted (counted .before) in
     record {
       number-and-place = verdict;
       parted = λ a. record {
@@ -108,7 +107,7 @@ returns-3 c =
         blinders = c .before .blinders-in .ensures ∙ blinders _ last;
         point = point _ last;
       };
-      none = λ r. absurd (not-both fine r);
+      none = λ r. absurd (not-both (accepted (counted .before)) r);
     }
 
 pub read-spec : {M : Type 1} → statement M
