@@ -11,7 +11,6 @@ ghost use Rattle.algebra.specs.Basis.{BasisWeights};
 ghost use Rattle.algebra.specs.Combination.{total};
 ghost use Rattle.algebra.proofs.ConsecutiveBasis.{descent};
 ghost use Rattle.field.specs.Field.{p, InverseTable};
-ghost use Rattle.poly.specs.Product.{zeros};
 ghost use Rattle.basis.specs.Passes.{pointsBefore, timesBefore, timesAfter};
 ghost use Rattle.basis.specs.BasisAt.{BasisAt};
 ghost use Rattle.basis.specs.Column.{Prepared, AddedFirst};
@@ -102,17 +101,6 @@ pub fn dot(y: &[u32], b: &[u32]) -> u32
     sum
 }
 
-// All words 0.
-fn clear(out: &mut [u32])
-    ensures { λ _. ⌜ now (out .exit) ≡ zeros (length (now (out .entry))) ⌝ }
-{
-    let mut i = 0;
-    while i < out.len() {
-        out[i] = 0;
-        i += 1;
-    }
-}
-
 // Adds to the words of a list of m words the list through the values y at 1..m: for each value that is not 0 its weight times
 // the target divided by X − x, which is 0 at all points but x. That is 2 m operations for such a value, and none for a 0.
 fn add_values(out: &mut [u32], y: &[u32], z: &[u32], weights: &[u32])
@@ -137,6 +125,6 @@ pub fn column_through(out: &mut [u32], y: &[u32], z: &[u32], weights: &[u32])
     requires { ⌜ (length (now y) ≡ length (now out)) × Prepared p (length (now out)) (now z) (now weights) ⌝ }
     ensures { λ _. ⌜ Through p (consecutive 1 (length (now (y .entry)))) (λ i. getD (now (y .entry)) i 0) (now (out .exit)) ⌝ }
 {
-    clear(out);
+    slices::clear(out);
     add_values(out, y, z, weights);
 }

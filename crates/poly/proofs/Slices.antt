@@ -1,14 +1,13 @@
--- What loops over a slice share. A loop up keeps the words done in front, `take i l ++ ..`; a loop down keeps them behind, and has
--- the words `take i l` still to do in front of them. And two words made of congruent parts are equal.
+-- What loops over a slice share, beside slices' `Front`: a part lent from i on; a loop down, which keeps the words done behind and
+-- has the words `take i l` still to do in front of them. And two words made of congruent parts are equal.
 use mathlib.Core.Path.{_≡_, sym, _∙_, ap}
 use mathlib.Core.List.{List, _∷_, _++_, append-assoc, append-nil}
 use Prim.Native.Nat.{ℕ, suc, _+_, _*_, _-_, _%_, _<_, _≤_}
 use native.Mathlib.Nat.{zero-add}
-use native.Mathlib.Numerals.{add-one}
 use native.Mathlib.Omega.{arith}
 use borrow.Rule.Slice.PartMut.{putMid}
 use lib.ListN.{length, take, drop, set, getD, length-drop, drop-of-length-le}
-use lib.Seq.{take-suc, take-suc-set, drop-set-lt, drop-cons, take-all, drop-drop, take-at, drop-at, set-at, getD-at, length-take-le}
+use lib.Seq.{take-suc, drop-cons, take-all, drop-drop, take-at, drop-at, set-at, getD-at, length-take-le}
 use lib.Seq.{take-append-add, drop-append-add, getD-append-add}
 use Rattle.algebra.specs.Congruence.{_≈⟨_⟩_, negative}
 use Rattle.algebra.specs.Polynomial.{value}
@@ -26,14 +25,6 @@ running p f s j h e n = rw (n, e, drop-cons f j 0) (same-word _ (≈-refl p s) (
 -- the word that `minus(0, x)` gives
 pub minus-same : {p k : ℕ} (x : ℕ) → k ≡ (0 + negative p x) % p → k ≈⟨ p ⟩ negative p x
 minus-same {p} x e = ≈-trans (≈-eq p (rw zero-add at e)) (≈-reduced p (negative p x))
-
--- loop up: one more word of l written
-module _ (l : List ℕ) (i v : ℕ) (h : i < length l) where
-  pub front-word : (rest : List ℕ) → take (i + 1) (set l i v) ++ rest ≡ take i l ++ v ∷ rest
-  front-word rest = rw (add-one, take-suc-set l i v h, append-assoc)
-
-  pub rest-kept : drop (i + 1) (set l i v) ≡ drop (i + 1) l
-  rest-kept = drop-set-lt (i + 1) l i v (omega arith)
 
 -- a part lent from i on comes back as f of it
 pub lent-back : (f : List ℕ → List ℕ) (l : List ℕ) (i : ℕ) {back : List ℕ} → back ≡ f (take (length l - i) (drop i l)) →

@@ -21,6 +21,7 @@ add-values-requires c κs =
     (start .pre .0 ∙ sym size, rw cleared (words-zero {p = p} (omega arith) m), rw size (start .pre .1))
 
 returns : tie.Need-returns
+unfolding zeros
 returns c =
     let start = c .before .before .before .before .before .before .before .before .before .before .before .before in
     let m = length (start .args .y .now) in

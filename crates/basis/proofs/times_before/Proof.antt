@@ -9,7 +9,7 @@ use borrow.Author.Needs.{needs}
 use lib.ListN.{length, take, drop, set, getD, length-set, drop-of-length-le}
 use lib.Seq.{drop-cons, take-all}
 use Rattle.field.specs.Field.{p}
-use Rattle.poly.proofs.Slices.{front-word, rest-kept}
+use Rattle.slices.proofs.Front.{front-word, rest-kept}
 use Rattle.basis.specs.Passes.{mapped, pointsBefore, timesBefore}
 use Rattle.basis.proofs.PassLaws.{times-running, running-factor, none-before, next-before}
 use Rattle.basis.proofs.times_before.Statement.{statement}

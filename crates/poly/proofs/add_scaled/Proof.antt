@@ -9,7 +9,7 @@ use lib.ListN.{length, take, drop, set, getD, length-set, drop-of-length-le, tak
 use lib.Seq.{drop-cons}
 use Rattle.field.specs.Field.{p}
 use Rattle.poly.specs.AddScaled.{scaled}
-use Rattle.poly.proofs.Slices.{front-word, rest-kept}
+use Rattle.slices.proofs.Front.{front-word, rest-kept}
 use Rattle.poly.proofs.add_scaled.Statement.{statement}
 use Rattle.poly.proofs.add_scaled.Tie as tie
 

@@ -11,7 +11,8 @@ use Rattle.algebra.specs.Congruence.{_≈⟨_⟩_, negative}
 use Rattle.algebra.proofs.Congruence.{≈-refl}
 use Rattle.field.specs.Field.{p}
 use Rattle.poly.specs.Factor.{timesFactor}
-use Rattle.poly.proofs.Slices.{same-word, minus-same, front-word, rest-kept}
+use Rattle.slices.proofs.Front.{front-word, rest-kept}
+use Rattle.poly.proofs.Slices.{same-word, minus-same}
 use Rattle.poly.proofs.times_factor.Statement.{statement}
 use Rattle.poly.proofs.times_factor.Tie as tie
 

@@ -9,7 +9,8 @@ use lib.ListN.{length, take, drop, set, getD, length-set, drop-of-length-le}
 use lib.Seq.{drop-cons, take-all}
 use Rattle.field.specs.Field.{p}
 use Rattle.poly.specs.Interpolation.{differences}
-use Rattle.poly.proofs.Slices.{front-word, rest-kept, kept-word, kept-rest}
+use Rattle.slices.proofs.Front.{front-word, rest-kept}
+use Rattle.poly.proofs.Slices.{kept-word, kept-rest}
 use Rattle.poly.proofs.interpolation.subtract_and_divide.Statement.{statement}
 use Rattle.poly.proofs.interpolation.subtract_and_divide.Tie as tie
 
