@@ -9,7 +9,7 @@ use lib.ListN.{getD, drop}
 use lib.Seq.{getD-drop}
 use Rattle.algebra.specs.Congruence.{_≈⟨_⟩_}
 use Rattle.algebra.specs.Polynomial.{value, sum, multiple, product, _≋⟨_⟩_}
-use Rattle.algebra.proofs.Congruence.{≈-refl, ≈-plus, ≈-times, ≈-product, by}
+use Rattle.algebra.proofs.Congruence.{≈-refl, ≈-plus, ≈-product, by}
 
 unfoldable pub weigh : List ℕ → (ℕ → ℕ) → ℕ
 weigh [] φ = 0
@@ -55,12 +55,6 @@ weigh-swap [] g φ = sym (weigh-zero g)
 weigh-swap (a ∷ f) g φ =
     omega
     (arith, weigh-plus g (λ j. a * φ 0 j) (λ j. weigh f (λ i. φ (suc i) j)), weigh-times a g (φ 0), weigh-swap f g (λ i. φ (suc i)))
-
--- congruent weights
-pub weigh-≈ : {p : ℕ} (f : List ℕ) {φ ψ : ℕ → ℕ} → ((k : ℕ) → φ k ≈⟨ p ⟩ ψ k) → weigh f φ ≈⟨ p ⟩ weigh f ψ
-unfolding weigh
-weigh-≈ {p} [] h = ≈-refl p 0
-weigh-≈ (a ∷ f) h = ≈-plus (≈-times a (h 0)) (weigh-≈ f (λ k. h (suc k)))
 
 pub value-weigh : (f : List ℕ) (s : ℕ) → value f s ≡ weigh f (λ k. s ^ k)
 unfolding value weigh

@@ -1,20 +1,23 @@
 -- p is prime, by trial division that the checker runs. So an inverse is the only one, and each record of
--- specs/Field.antt admits one answer.
+-- specs/Field.antt admits one answer. Document 01, "The field".
 use mathlib.Core.Path.{_≡_, sym, _∙_}
 use mathlib.Core.List.{List}
 use mathlib.Core.Logic.{⊎-elim}
-use Prim.Native.Nat.{ℕ}
+use Prim.Native.Nat.{ℕ, _<_}
 use native.Mathlib.Omega.{arith}
 use lib.Seq.{ext-getD}
 use Rattle.algebra.specs.Prime.{Prime}
 use Rattle.algebra.proofs.Congruence.{zero-or-not}
 use Rattle.algebra.proofs.PrimeTest.{isPrime, prime}
-use Rattle.algebra.proofs.Inverse.{inverse-unique}
+use Rattle.algebra.proofs.Inverse.{positive, inverse-unique}
 use Rattle.field.specs.Field.{p, InverseOrZero, InverseTable}
 
 pub p-prime : Prime p
 unfolding isPrime
 p-prime = prime p tt
+
+pub p-positive : 0 < p
+p-positive = positive p-prime
 
 pub one-answer : {a r s : ℕ} → InverseOrZero a r → InverseOrZero a s → r ≡ s
 one-answer {a} h k = ⊎-elim

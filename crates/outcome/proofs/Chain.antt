@@ -1,5 +1,6 @@
 -- How code that returns at the first failed check meets its verdict: each law takes off the verdict's first check,
 -- passed or failed. `search chain` walks down the checks by the facts that the branches left.
+-- Document 01, "Numbers a call gives back".
 use mathlib.Core.Bool.{Bool, true, false, _&&_}
 use mathlib.Core.Path.{_≡_, refl, sym, _∙_}
 use Prim.Native.Nat.{ℕ, _<_, _≤_}

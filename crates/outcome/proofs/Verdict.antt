@@ -1,8 +1,9 @@
 -- The laws of checks in a row: what is accepted passes every check, and a refusal is the first that fails.
+-- Document 01, "Numbers a call gives back".
 use mathlib.Core.Bool.{Bool, true, false, _&&_}
 use mathlib.Core.List.{List}
 use mathlib.Core.Logic.{_⊎_, inl, inr, ⊎-elim}
-use mathlib.Core.Path.{_≡_, refl, _∙_, ap}
+use mathlib.Core.Path.{_≡_, refl, sym, _∙_, ap}
 use Prim.Native.Nat.{ℕ, zero, suc, _<_}
 use native.Mathlib.Nat.{eq-zero-or-pos, eq-or-lt-of-le}
 use native.Mathlib.Omega.{arith}
@@ -52,12 +53,6 @@ pub accepted-parts : {a b : Outcome} → Accepted (a andThen b) → Accepted a �
 accepted-parts {a} {b} h = ⊎-elim (λ (ha : Accepted a). (ha, rw (goes-on b ha) at h))
     (λ (r : Refused a). absurd (not-both (rw (stops b r) at h) r)) (accepted-or-refused a)
 
-pub andThen-assoc : (a b c : Outcome) → (a andThen b) andThen c ≡ a andThen b andThen c
-andThen-assoc a b c = ⊎-elim
-    (λ (h : Accepted a). rw (goes-on b h, goes-on (b andThen c) h))
-    (λ (r : Refused a). rw (stops b r, stops (b andThen c) r, stops c r))
-    (accepted-or-refused a)
-
 -- one check
 
 pub passes : {t : Bool} (number place : ℕ) → t ≡ true → require t number place ≡ fine
@@ -89,17 +84,20 @@ pub taken : (t : Bool) (number place : ℕ) {rest : Outcome} → 0 < number → 
     (t ≡ true) × Accepted rest
 taken t number place l h = let parts = accepted-parts h in (require-accepted t number place l (parts .0), parts .1)
 
+pub apart : true ≡ false → ⊥
+apart h = omega (arith, ap {B = ℕ} (elim [ true ↦ 1 | false ↦ 0 ]) h)
+
+pub both-true : (s : Bool) {t : Bool} → s && t ≡ true → (s ≡ true) × (t ≡ true)
+both-true true h = (refl, h)
+both-true false h = absurd (apart (sym h))
+
 pub within-true : {low x high : ℕ} → Within low x high → within low x high ≡ true
 within-true {low} {x} {high} h = rw (le-leb low x (h .at-least), le-leb x high (h .at-most))
 
 pub true-within : (low x high : ℕ) → within low x high ≡ true → Within low x high
 true-within low x high h =
-    let parts = both (leb low x) h in
+    let parts = both-true (leb low x) h in
     record { at-least = leb-true low x (parts .0); at-most = leb-true x high (parts .1) }
-  where
-    both : (s : Bool) {t : Bool} → s && t ≡ true → (s ≡ true) × (t ≡ true)
-    both true h = (refl, h)
-    both false h = absurd (omega (arith, ap {B = ℕ} (elim [ true ↦ 1 | false ↦ 0 ]) h))
 
 -- the first fault of many
 
