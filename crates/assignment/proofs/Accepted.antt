@@ -1,4 +1,5 @@
 -- The verdicts accept exactly well formed assignments and public sections, and then are 0 at place 0.
+-- Document 01, "Assignment words".
 use mathlib.Core.List.{List}
 use Prim.Native.Nat.{ℕ, _-_, _+_, _<_}
 use native.Mathlib.Omega.{arith}
@@ -13,7 +14,7 @@ use Rattle.circuit.specs.Circuit.{word}
 use Rattle.circuit.specs.WellFormed.{WellFormed}
 use Rattle.circuit.proofs.Formed.{circuit-formed}
 use Rattle.algebra.specs.Polynomial.{Words}
-use Rattle.assignment.specs.Assignment.{wordsVerdict, valuesVerdict, assignmentVerdict, publicVerdict, circuitThenAssignment, circuitThenPublic}
+use Rattle.assignment.specs.Assignment.{wordsVerdict, valuesVerdict, assignmentVerdict, publicVerdict, circuitThenAssignment}
 use Rattle.assignment.specs.WellFormed.{ValuesFormed, AssignmentFormed, PublicFormed}
 
 abbrev pub each : ℕ → ℕ → List ℕ → ℕ → Outcome
@@ -83,10 +84,6 @@ public-accepted f = accepted-both (accepted-require _ _ (eq-eqb _ _ (f .size)))
 pub both-formed : (c a : List ℕ) → Accepted (circuitThenAssignment c a) → WellFormed c × AssignmentFormed c a
 unfolding circuitThenAssignment
 both-formed c a h = let parts = accepted-parts h in (circuit-formed c (parts .0), assignment-formed c a (parts .1))
-
-pub both-public-formed : (c a : List ℕ) → Accepted (circuitThenPublic c a) → WellFormed c × PublicFormed c a
-unfolding circuitThenPublic
-both-public-formed c a h = let parts = accepted-parts h in (circuit-formed c (parts .0), public-formed c a (parts .1))
 
 ruleset proper = (proper-require, proper-andThen, lit<, tt)
 

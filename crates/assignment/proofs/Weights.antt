@@ -1,5 +1,6 @@
 -- Where values stand: public ones at their column's number, private ones one further, all inside the assignment;
 -- and what is handed out of an accepted assignment is an accepted public section with the same public values.
+-- Document 01, "Assignment words".
 use mathlib.Core.Bool.{Bool, true, false}
 use mathlib.Core.List.{List}
 use mathlib.Core.Logic.{_⊎_, inl, inr, ⊎-elim}
@@ -12,7 +13,6 @@ use lib.ListN.{length, take}
 use lib.Seq.{length-take-le, getD-take}
 use Rattle.outcome.specs.Verdict.{Accepted}
 use Rattle.outcome.proofs.Verdict.{written-new}
-use Rattle.field.specs.Field.{p}
 use Rattle.circuit.specs.Circuit.{word, publics, columns}
 use Rattle.circuit.specs.WellFormed.{Formed}
 use Rattle.assignment.specs.Assignment.{weightAt, weight, circuitThenAssignment, publicVerdict, publicSection}
@@ -50,12 +50,6 @@ module _ {c a : List ℕ} (formed : AssignmentFormed c a) where
       (λ (low : j ≤ publics c). rw (public-at c j low) (omega arith))
       (λ (high : publics c < j). rw (private-at c j high) (omega arith))
       (public-or-private c j)
-
-  pub weight-word : (j : ℕ) → j ≤ columns c → weight c a j < p
-  weight-word j h = formed .values .words .below (weightAt c j) (weight-inside j h)
-
-  pub weight-one : 1 ≤ publics c → weight c a 1 ≡ 1
-  weight-one h = rw (public-at c 1 h) (formed .values .one)
 
 -- the public part of an assignment is a public section with the same values
 module _ {c a : List ℕ} (circuit : Formed c) (formed : AssignmentFormed c a) where

@@ -45,21 +45,21 @@ pub fn assignment_words_verdict(circuit: &[u32], words: &[u32]) -> Outcome
     requires { ⌜ Formed (now circuit) ⌝ }
     ensures { λ r. ⌜ r ≡ assignmentVerdict (now (circuit .entry)) (now (words .entry)) ⌝ }
 {
-    let q = circuit[1];
-    let n = circuit[2];
-    if words.len() != n as usize + 2 {
+    let q = circuit::counts::publics_of(circuit);
+    let n = circuit::counts::columns_of(circuit);
+    if words.len() != n + 2 {
         return Outcome {
             number: 6,
             place: 0,
         };
     }
-    if words[0] != q {
+    if words[0] as usize != q {
         return Outcome {
             number: 6,
             place: 0,
         };
     }
-    if words[q as usize + 1] != n - q {
+    if words[q + 1] as usize != n - q {
         return Outcome {
             number: 6,
             place: 0,
@@ -73,14 +73,14 @@ pub fn public_words_verdict(circuit: &[u32], words: &[u32]) -> Outcome
     requires { ⌜ Formed (now circuit) ⌝ }
     ensures { λ r. ⌜ r ≡ publicVerdict (now (circuit .entry)) (now (words .entry)) ⌝ }
 {
-    let q = circuit[1];
-    if words.len() != q as usize + 1 {
+    let q = circuit::counts::publics_of(circuit);
+    if words.len() != q + 1 {
         return Outcome {
             number: 6,
             place: 0,
         };
     }
-    if words[0] != q {
+    if words[0] as usize != q {
         return Outcome {
             number: 6,
             place: 0,
@@ -117,6 +117,6 @@ pub fn public_section<'a>(circuit: &[u32], words: &'a [u32]) -> &'a [u32]
     if found.number != 0 {
         return &words[..0];
     }
-    let end = circuit[1] as usize + 1;
+    let end = circuit::counts::publics_of(circuit) + 1;
     &words[..end]
 }

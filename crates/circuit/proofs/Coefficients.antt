@@ -1,17 +1,16 @@
--- What a coefficient is: the value of the entry listed there, 0 where none is, and a field word in any case;
--- and a sum over listed entries is the sum over rows and columns of the coefficients.
+-- What a coefficient is (document 01, "Circuit words"): the value of the entry listed there, and 0 where none is; and a sum over
+-- listed entries is the sum over rows and columns of the coefficients.
 use mathlib.Core.Bool.{Bool, true, false}
 use mathlib.Core.List.{List}
 use mathlib.Core.Logic.{⊎-elim}
-use mathlib.Core.Path.{_≡_, refl, sym, _∙_, ap}
+use mathlib.Core.Path.{_≡_, refl, sym, _∙_}
 use Prim.Native.Nat.{ℕ, zero, suc, _*_, _≤_, _<_}
 use native.Mathlib.Nat.{eq-or-lt-of-le, zero-add}
 use native.Mathlib.Omega.{arith}
 use borrow.Author.Tests.{eq-eqb}
 use lib.Dec.{eqb}
 use Rattle.outcome.specs.Verdict.{within}
-use Rattle.outcome.proofs.Verdict.{within-true}
-use Rattle.field.specs.Field.{p}
+use Rattle.outcome.proofs.Verdict.{apart, within-true}
 use Rattle.circuit.specs.Circuit.{rows, columns, entries, rowOf, columnOf, valueOf, section, isAt, listed, coef}
 use Rattle.circuit.specs.WellFormed.{SectionFormed, Formed}
 use Rattle.algebra.specs.Combination.{total}
@@ -30,15 +29,6 @@ module _ {c : List ℕ} {s : ℕ} (formed : SectionFormed c s) where
       go true here none = let place = at-place c s i j k here in absurd (h k (omega arith) (place .0) (place .1))
       go false here none = none
 
-  listed-word : (i j k : ℕ) → k ≤ entries c s → listed c s i j k < p
-  unfolding listed
-  listed-word i j zero l = omega arith
-  listed-word i j (suc k) l = go (isAt c s i j k) (listed-word i j k (omega arith))
-    where
-      go : (b : Bool) → listed c s i j k < p → elim b as (λ b. ℕ) [ true ↦ valueOf c s k | false ↦ listed c s i j k ] < p
-      go true below = omega (arith, formed .entry k l .value .at-most)
-      go false below = below
-
   listed-value : columns c ≤ 256 → (i j e k : ℕ) → e < k → k ≤ entries c s → isAt c s i j e ≡ true → listed c s i j k ≡ valueOf c s e
   unfolding listed
   listed-value few i j e zero h l there = absurd (omega arith)
@@ -51,7 +41,7 @@ module _ {c : List ℕ} {s : ℕ} (formed : SectionFormed c s) where
           (λ (less : e < k). absurd (one-only few formed i j e k less l there here))
           (eq-or-lt-of-le (omega arith))
       go false here lower = ⊎-elim
-          (λ (same : e ≡ k). absurd (omega (arith, ap {B = ℕ} (elim [ true ↦ 1 | false ↦ 0 ]) (sym there ∙ rw (← same) at here))))
+          (λ (same : e ≡ k). absurd (apart (sym there ∙ rw (← same) at here)))
           (λ (less : e < k). lower less (omega arith) there)
           (eq-or-lt-of-le (omega arith))
 
@@ -84,10 +74,6 @@ module _ {c : List ℕ} (formed : Formed c) (matrix : ℕ) (l : matrix < 3) wher
       coef c matrix i j ≡ 0
   unfolding coef
   coef-none i j h = listed-none (formed .matrices matrix l) i j (entries c (section c matrix)) h
-
-  pub coef-word : (i j : ℕ) → coef c matrix i j < p
-  unfolding coef
-  coef-word i j = listed-word (formed .matrices matrix l) i j (entries c (section c matrix)) (omega arith)
 
   pub coef-sum : (g : ℕ → ℕ → ℕ) →
       total (λ e. g (rowOf c (section c matrix) e) (columnOf c (section c matrix) e) * valueOf c (section c matrix) e) (entries c (section c matrix))

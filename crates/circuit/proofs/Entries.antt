@@ -1,5 +1,5 @@
 -- Entries of a well formed section: they ascend, so at most one is listed at a row and a column, and a sum over the
--- entries is the sum over rows and columns of the coefficients.
+-- entries is the sum over rows and columns of the coefficients. Document 01, "Circuit words".
 use mathlib.Core.Bool.{Bool, true, false, _&&_, _||_}
 use mathlib.Core.List.{List}
 use mathlib.Core.Logic.{_⊎_, inl, inr, ⊎-elim}
@@ -10,15 +10,14 @@ use native.Mathlib.Omega.{arith}
 use borrow.Author.Tests.{eqb-true, ne-eqb, ltb-true}
 use lib.Dec.{eqb, ltb}
 use Rattle.outcome.specs.Verdict.{within}
+use Rattle.outcome.proofs.Verdict.{apart, both-true}
 use Rattle.circuit.specs.Circuit.{columns, entries, rowOf, columnOf, valueOf, isAt, listed}
 use Rattle.circuit.specs.Reader.{above}
 use Rattle.circuit.specs.WellFormed.{SectionFormed}
 use Rattle.algebra.specs.Combination.{total}
+use Rattle.algebra.proofs.Combination.{total-times}
 use Rattle.circuit.specs.Totals.{only}
-use Rattle.circuit.proofs.Totals.{total-same, total-zero, total-times, total-swap, total-pick}
-
-true-or-false : {A : Type 0} → true ≡ false → A
-true-or-false h = absurd (omega (arith, ap {B = ℕ} (elim [ true ↦ 1 | false ↦ 0 ]) h))
+use Rattle.circuit.proofs.Totals.{total-same, total-zero, total-swap, total-pick}
 
 -- one number for a row and a column: columns go up to 256
 abbrev rank : List ℕ → ℕ → ℕ → ℕ
@@ -31,15 +30,11 @@ above-means r k r0 k0 h = go (ltb r0 r) refl (eqb r0 r) refl (ltb k0 k) refl h
         (r0 < r) ⊎ ((r0 ≡ r) × (k0 < k))
     go true ea b eb d ed h = inl (ltb-true r0 r ea)
     go false ea true eb true ed h = inr (eqb-true r0 r eb, ltb-true k0 k ed)
-    go false ea true eb false ed h = true-or-false (sym h)
-    go false ea false eb d ed h = true-or-false (sym h)
+    go false ea true eb false ed h = absurd (apart (sym h))
+    go false ea false eb d ed h = absurd (apart (sym h))
 
 pub at-place : (c : List ℕ) (s i j e : ℕ) → isAt c s i j e ≡ true → (rowOf c s e ≡ i) × (columnOf c s e ≡ j)
-at-place c s i j e h = go (eqb (rowOf c s e) i) refl h
-  where
-    go : (a : Bool) → eqb (rowOf c s e) i ≡ a → a && eqb (columnOf c s e) j ≡ true → (rowOf c s e ≡ i) × (columnOf c s e ≡ j)
-    go true ea h = (eqb-true _ _ ea, eqb-true _ _ h)
-    go false ea h = true-or-false (sym h)
+at-place c s i j e h = let parts = both-true (eqb (rowOf c s e) i) h in (eqb-true _ _ (parts .0), eqb-true _ _ (parts .1))
 
 module _ {c : List ℕ} (few : columns c ≤ 256) {s : ℕ} (formed : SectionFormed c s) where
   step : (e : ℕ) → suc e < entries c s → rank c s e < rank c s (suc e)

@@ -1,4 +1,4 @@
--- A verdict accepts exactly where the words are well formed: each check is one field of the record.
+-- A verdict accepts exactly where the words are well formed: each check is one field of the record. Document 01, "Circuit words".
 use mathlib.Core.List.{List}
 use Prim.Native.Nat.{ℕ}
 use borrow.Author.Tests.{le-leb, lt-ltb, eq-eqb, leb-true, ltb-true, eqb-true}
@@ -85,7 +85,3 @@ circuit-formed c h =
 pub circuit-accepted : {c : List ℕ} → WellFormed c → Accepted (circuitVerdict c)
 unfolding circuitVerdict
 circuit-accepted f = accepted-both (prefix-accepted (f .formed)) (accepted-require _ _ (eq-eqb _ _ (f .whole)))
-
-pub circuit-prefix : (c : List ℕ) → Accepted (circuitVerdict c) → Accepted (prefixVerdict c)
-unfolding circuitVerdict
-circuit-prefix c h = accepted-parts h .0

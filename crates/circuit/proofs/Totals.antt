@@ -1,9 +1,10 @@
--- The laws of sums over the indices below a number: linear, two sums change places, and one index is picked out.
+-- Sums over the indices below a number, beside those laws that algebra has: two sums change places, and one index is picked
+-- out; and tables of values. For the sums over columns of document 01, "Polynomials".
 use mathlib.Core.Bool.{Bool, true, false}
 use mathlib.Core.Logic.{⊎-elim}
 use mathlib.Core.Path.{_≡_, refl, sym, _∙_, ap}
-use Prim.Native.Nat.{ℕ, zero, suc, _+_, _*_, _≤_, _<_}
-use native.Mathlib.Nat.{add-zero, add-suc, le-suc-iff}
+use Prim.Native.Nat.{ℕ, zero, suc, _+_, _≤_, _<_}
+use native.Mathlib.Nat.{le-suc-iff}
 use native.Mathlib.Omega.{arith}
 use borrow.Author.Tests.{eq-eqb, ne-eqb, leb-true, leb-false}
 use lib.Dec.{eqb, leb}
@@ -27,20 +28,10 @@ unfolding total
 total-plus f g zero = refl
 total-plus f g (suc k) = omega (arith, total-plus f g k)
 
-pub total-times : (a : ℕ) (f : ℕ → ℕ) (k : ℕ) → total (λ i. a * f i) k ≡ a * total f k
-unfolding total
-total-times a f zero = omega arith
-total-times a f (suc k) = omega (arith, total-times a f k)
-
 pub total-swap : (f : ℕ → ℕ → ℕ) (m n : ℕ) → total (λ i. total (f i) n) m ≡ total (λ j. total (λ i. f i j) m) n
 unfolding total
 total-swap f zero n = sym (total-zero (λ j. 0) n (λ j l. refl))
 total-swap f (suc m) n = ap (λ (x : ℕ). x + total (f m) n) (total-swap f m n) ∙ sym (total-plus (λ j. total (λ i. f i j) m) (f m) n)
-
-pub total-join : (f : ℕ → ℕ) (m n : ℕ) → total f (m + n) ≡ total f m + total (λ i. f (m + i)) n
-unfolding total
-total-join f m zero = rw add-zero (omega arith)
-total-join f m (suc n) = rw add-suc (omega (arith, total-join f m n))
 
 -- the one index j among from + 1, .., from + k
 

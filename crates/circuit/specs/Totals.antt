@@ -1,7 +1,8 @@
--- Sums and lists over the indices below a number: what row sums and sums over entries are written with.
+-- Lists over the indices below a number, and terms that count where a test holds: what columns and row sums are written with.
+-- Document 01, "Polynomials".
 use mathlib.Core.Bool.{Bool, true, false}
 use mathlib.Core.List.{List, [], _∷_}
-use Prim.Native.Nat.{ℕ, zero, suc, _+_}
+use Prim.Native.Nat.{ℕ, zero, suc}
 
 -- the list f 0, f 1, .., f (k − 1)
 unfoldable pub table : (ℕ → ℕ) → ℕ → List ℕ

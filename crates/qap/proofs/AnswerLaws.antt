@@ -1,26 +1,25 @@
 -- The four answers: public and private parts make the whole, so the first three with the public parts added are
--- A'(s), B'(s), C'(s), and the answer check's equality is that of the quotient at s.
-use mathlib.Core.Path.{_≡_, _∙_, ap}
+-- A'(s), B'(s), C'(s), and the answer check's equality is that of the quotient at s. Document 01, "Query and checks".
+use mathlib.Core.Path.{_≡_, sym}
 use mathlib.Core.List.{List}
 use Prim.Native.Nat.{ℕ, suc, _+_, _*_, _-_, _%_, _≤_}
-use native.Mathlib.Nat.{zero-add, sub-zero, le-of-eq}
+use native.Mathlib.Nat.{le-of-eq}
 use native.Mathlib.Omega.{arith}
 use Rattle.algebra.specs.Congruence.{_≈⟨_⟩_}
 use Rattle.algebra.specs.Polynomial.{value, sum}
 use Rattle.algebra.specs.Points.{Distinct}
-use Rattle.algebra.specs.Combination.{total}
 use Rattle.algebra.specs.Blinding.{blinded}
 use Rattle.algebra.proofs.Congruence.{≈-eq, ≈-sym, ≈-trans, ≈-plus, ≈-times, ≈-product, ≈-reduced, by}
 use Rattle.algebra.proofs.Polynomial.{length-sum, value-sum, value-multiple}
 use Rattle.algebra.proofs.Same.{≋-value}
 use Rattle.algebra.proofs.Roots.{same-values}
-use Rattle.algebra.proofs.Combination.{total-split, total-≈}
+use Rattle.algebra.proofs.Combination.{total-≈}
 use Rattle.algebra.proofs.Blinding.{divides-value}
 use Rattle.field.specs.Field.{p}
 use Rattle.field.proofs.PrimeField.{p-prime}
-use Rattle.circuit.specs.Circuit.{publics, columns, points, coef}
-use Rattle.assignment.specs.Assignment.{weight}
-use Rattle.rows.specs.Rows.{rowSum, wholeSum, publicSum, privateSum}
+use Rattle.circuit.specs.Circuit.{publics, columns, points}
+use Rattle.rows.specs.Rows.{rowSum}
+use Rattle.rows.proofs.Parts.{parts-whole}
 use Rattle.qap.specs.Polynomials.{Whole, PublicPart, PrivatePart, targetOf}
 use Rattle.qap.specs.Answers.{IsAnswers, AnswersAgree}
 use Rattle.qap.specs.Demands.{SamePublic}
@@ -42,13 +41,6 @@ module _ (c a : List ℕ) (distinct : Distinct p (points c)) where
       })
 
   module _ (few : publics c ≤ columns c) where
-    sums-split : (matrix i : ℕ) → wholeSum c a matrix i ≡ publicSum c a matrix i + privateSum c a matrix i
-    unfolding rowSum
-    sums-split matrix i =
-        let summand : ℕ → ℕ = λ t. weight c a (suc t) * coef c matrix i (suc t) in
-        let whole : columns c ≡ publics c + (columns c - publics c) = omega arith in
-        simp (zero-add, sub-zero) (ap (total summand) whole ∙ total-split summand (publics c) (columns c - publics c))
-
     -- the whole at any s is the public part and the private part
     pub whole-value : {matrix : ℕ} {f g h : List ℕ} → Whole c a matrix f → PublicPart c a matrix g → PrivatePart c a matrix h → (s : ℕ) →
         value f s ≈⟨ p ⟩ value g s + value h s
@@ -58,7 +50,7 @@ module _ (c a : List ℕ) (distinct : Distinct p (points c)) where
         let H = part-through c a matrix (publics c) (columns c) rh in
         let same = same-values p-prime (points c) f (sum g h) distinct (le-of-eq (F .size))
         (simp length-sum (omega (arith, G .size, H .size)))
-        (λ i l. rw value-sum (≈-trans (F .takes i l) (≈-trans (≈-eq p (sums-split matrix (suc i)))
+        (λ i l. rw value-sum (≈-trans (F .takes i l) (≈-trans (≈-eq p (sym (parts-whole c a few matrix (suc i))))
         (≈-sym (≈-plus (G .takes i l) (H .takes i l)))))) in
         ≈-trans (≋-value same s) (≈-eq p (value-sum g h s))
 

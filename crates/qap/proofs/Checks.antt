@@ -1,5 +1,5 @@
 -- What the two checks accept, over the calls' contracts: the division check exactly the quotient, and the answer check
--- every answer that the answers call gives, beside the public section that is handed out.
+-- every answer that the answers call gives, beside the public section that is handed out. Document 01, "Query and checks".
 use mathlib.Core.Path.{_≡_, sym, _∙_, ap}
 use mathlib.Core.List.{List}
 use mathlib.Core.Logic.{⊎-elim}
@@ -14,10 +14,9 @@ use Rattle.outcome.specs.Verdict.{Accepted, Refused, fine}
 use Rattle.outcome.proofs.Verdict.{accepted-fine, accepted-both, accepted-or-refused, not-both, written-new}
 use Rattle.algebra.specs.Polynomial.{Words}
 use Rattle.algebra.specs.Points.{Distinct}
-use Rattle.algebra.proofs.Inverse.{positive}
 use Rattle.algebra.proofs.Consecutive.{length-consecutive}
 use Rattle.field.specs.Field.{p}
-use Rattle.field.proofs.PrimeField.{p-prime}
+use Rattle.field.proofs.PrimeField.{p-positive}
 use Rattle.circuit.specs.Circuit.{rows, publics, points}
 use Rattle.circuit.proofs.Formed.{circuit-formed}
 use Rattle.assignment.specs.Assignment.{circuitThenAssignment, publicSection}
@@ -42,10 +41,10 @@ answer-words : {c a : List ℕ} {d : Blinders} {s : ℕ} {r : FourAnswers} → I
 answer-words {r = r} h = record { below = each }
   where
     each : (i : ℕ) → i < 4 → getD (answerWords r) i 0 < p
-    each zero l = rw (h .first) (mod-lt _ (positive p-prime))
-    each (suc zero) l = rw (h .second) (mod-lt _ (positive p-prime))
-    each (suc (suc zero)) l = rw (h .third) (mod-lt _ (positive p-prime))
-    each (suc (suc (suc zero))) l = rw (h .fourth) (mod-lt _ (positive p-prime))
+    each zero l = rw (h .first) (mod-lt _ p-positive)
+    each (suc zero) l = rw (h .second) (mod-lt _ p-positive)
+    each (suc (suc zero)) l = rw (h .third) (mod-lt _ p-positive)
+    each (suc (suc (suc zero))) l = rw (h .fourth) (mod-lt _ p-positive)
     each (suc (suc (suc (suc i)))) l = absurd (omega arith)
 
 module _ (c a : List ℕ) (d : Blinders) (s : ℕ) (r : FourAnswers) (call : AnswersCall c a d s fine r) where

@@ -1,5 +1,4 @@
--- Demand 2 over the definitions: the quotient's formula and its last two words, what the division check accepts, and that the box's
--- four numbers pass the tablet's check.
+-- Demand 2 over the definitions: the quotient's formula, and its last two words with blinders 0. Document 01, "Polynomials".
 use mathlib.Core.Path.{_≡_}
 use mathlib.Core.List.{List}
 use Prim.Native.Nat.{ℕ, _-_}
@@ -8,11 +7,10 @@ use lib.ListN.{getD}
 use Rattle.algebra.specs.Polynomial.{_≋⟨_⟩_}
 use Rattle.algebra.specs.Points.{Distinct}
 use Rattle.algebra.specs.Blinding.{PlainQuotient, blindedSum}
-use Rattle.algebra.proofs.Inverse.{positive}
 use Rattle.algebra.proofs.Consecutive.{length-consecutive}
 use Rattle.algebra.proofs.Blinding.{blinded-formula, last-two-zero}
 use Rattle.field.specs.Field.{p}
-use Rattle.field.proofs.PrimeField.{p-prime}
+use Rattle.field.proofs.PrimeField.{p-prime, p-positive}
 use Rattle.circuit.specs.Circuit.{rows, points}
 use Rattle.qap.specs.Polynomials.{IsQuotient}
 use Rattle.qap.specs.declared.Blinders.{Blinders}
@@ -22,7 +20,7 @@ module _ {c a : List ℕ} where
   pub quotient-formula : {d : Blinders} {h : List ℕ} (q : IsQuotient c a d h) {plain : List ℕ} → PlainQuotient p (points c) (q .A) (q .B) (q .C) plain →
       h ≋⟨ p ⟩ blindedSum p (points c) (q .A) (q .B) (d .first) (d .second) (d .third) plain
   quotient-formula {d} q plain =
-      blinded-formula (positive p-prime) (points c) (q .A) (q .B) (q .C) (d .first) (d .second) (d .third) plain (q .quotient)
+      blinded-formula p-positive (points c) (q .A) (q .B) (q .C) (d .first) (d .second) (d .third) plain (q .quotient)
 
   -- with blinders 0 the last two words are 0
   pub quotient-unblinded : Distinct p (points c) → {h : List ℕ} → IsQuotient c a (record { first = 0; second = 0; third = 0 }) h →

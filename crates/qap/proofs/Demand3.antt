@@ -10,9 +10,9 @@ use Rattle.algebra.specs.Congruence.{_≈⟨_⟩_}
 use Rattle.algebra.specs.Polynomial.{value}
 use Rattle.algebra.specs.Points.{Distinct}
 use Rattle.algebra.proofs.Congruence.{≈-sym, ≈-trans, ≈-plus, ≈-reduced, ≈-words, by}
-use Rattle.algebra.proofs.Inverse.{positive, solve, solve-unique, cancel}
+use Rattle.algebra.proofs.Inverse.{solve, solve-unique, cancel}
 use Rattle.field.specs.Field.{p}
-use Rattle.field.proofs.PrimeField.{p-prime}
+use Rattle.field.proofs.PrimeField.{p-prime, p-positive}
 use Rattle.circuit.specs.Circuit.{publics, columns, points}
 use Rattle.rows.specs.Rows.{RowsHold}
 use Rattle.qap.specs.Polynomials.{PrivatePart, targetOf}
@@ -30,7 +30,7 @@ module _ (c a : List ℕ) (distinct : Distinct p (points c)) (s : ℕ) (off : va
   blinder v word f =
       let (d, below, e) = solve p-prime (value (targetOf c) s) off (value f s) v in
       let sum = value f s + d * value (targetOf c) s in
-      (d, below, ≈-words (≈-trans (≈-sym e) (≈-sym (≈-reduced p sum))) word (mod-lt sum (positive p-prime)))
+      (d, below, ≈-words (≈-trans (≈-sym e) (≈-sym (≈-reduced p sum))) word (mod-lt sum p-positive))
 
   same-blinder : {matrix : ℕ} {f g : List ℕ} (v : ℕ) {d e : ℕ} → PrivatePart c a matrix f → PrivatePart c a matrix g → d < p → e < p →
       v ≡ (value f s + d * value (targetOf c) s) % p → v ≡ (value g s + e * value (targetOf c) s) % p → d ≡ e
@@ -119,7 +119,7 @@ pub fourth-follows : (c a b : List ℕ) (distinct : Distinct p (points c)) → p
 fourth-follows c a b distinct few same {d} {s} {r} h =
     let agree = answers-agree c a distinct few h in
     record {
-      word = rw (h .fourth) (mod-lt (value (h .H) s) (positive p-prime));
+      word = rw (h .fourth) (mod-lt (value (h .H) s) p-positive);
       agrees = record {
         A = agree .A;
         B = agree .B;
@@ -135,12 +135,11 @@ pub same-answers : (c a b : List ℕ) (distinct : Distinct p (points c)) → pub
     (s : ℕ) (off : value (targetOf c) s ≈⟨ p ⟩ 0 → ⊥) {d : Blinders} {r : FourAnswers} →
     IsAnswers c a d s r → Exactly Blinders (Answered c b s r)
 same-answers c a b distinct few same hold s off {d} {r} h =
-    let pos = positive p-prime in
     let z = value (targetOf c) s in
     let three = any-three c b distinct s off hold (r .first) (r .second) (r .third)
-    (rw (h .first) (mod-lt (value (h .A) s + d .first * z) pos))
-    (rw (h .second) (mod-lt (value (h .B) s + d .second * z) pos))
-    (rw (h .third) (mod-lt (value (h .C) s + d .third * z) pos)) in
+    (rw (h .first) (mod-lt (value (h .A) s + d .first * z) p-positive))
+    (rw (h .second) (mod-lt (value (h .B) s + d .second * z) p-positive))
+    (rw (h .third) (mod-lt (value (h .C) s + d .third * z) p-positive)) in
     let itself : SamePublic c b b = record { weights = λ j l u. refl } in
     let fourth : three .has .fourth ≡ r .fourth =
     one-fourth c b distinct s off (fourth-follows c b b distinct few itself (three .has .answered .answers))

@@ -1,4 +1,5 @@
 -- The quotient of a circuit and an assignment: it exists exactly where every row holds, and is the only one.
+-- Document 01, "Polynomials".
 use mathlib.Core.Path.{_≡_}
 use mathlib.Core.List.{List}
 use Prim.Native.Nat.{ℕ, zero, suc, _<_, _≤_}
@@ -8,11 +9,10 @@ use Rattle.algebra.specs.Polynomial.{Words}
 use Rattle.algebra.specs.Points.{Distinct, Through}
 use Rattle.algebra.specs.Blinding.{Holds}
 use Rattle.algebra.proofs.Congruence.{≈-sym, ≈-trans, ≈-product}
-use Rattle.algebra.proofs.Inverse.{positive}
 use Rattle.algebra.proofs.Consecutive.{length-consecutive}
 use Rattle.algebra.proofs.Blinding.{blinded-exists, blinded-holds, blinded-unique}
 use Rattle.field.specs.Field.{p}
-use Rattle.field.proofs.PrimeField.{p-prime}
+use Rattle.field.proofs.PrimeField.{p-prime, p-positive}
 use Rattle.circuit.specs.Circuit.{rows, columns, points}
 use Rattle.rows.specs.Rows.{RowHolds, RowsHold, wholeSum}
 use Rattle.qap.specs.Polynomials.{Whole, IsQuotient}
@@ -51,7 +51,7 @@ module _ (c a : List ℕ) where
   pub quotient-holds : {d : Blinders} {h : List ℕ} → IsQuotient c a d h → RowsHold c a
   quotient-holds {d} q =
       points-to-rows (q .whole-A) (q .whole-B) (q .whole-C)
-      (blinded-holds (positive p-prime) (points c) (q .A) (q .B) (q .C) (d .first) (d .second) (d .third) (q .quotient .divides))
+      (blinded-holds p-positive (points c) (q .A) (q .B) (q .C) (d .first) (d .second) (d .third) (q .quotient .divides))
 
   module _ (distinct : Distinct p (points c)) (d : Blinders) where
     pub quotient-exists : RowsHold c a → (h : List ℕ) × IsQuotient c a d h
@@ -101,5 +101,5 @@ module _ (c a : List ℕ) where
         let same-A = part-unique c a 0 0 (columns c) distinct (t .whole-A) (s .whole-A) in
         let same-B = part-unique c a 1 0 (columns c) distinct (t .whole-B) (s .whole-B) in
         let same-C = part-unique c a 2 0 (columns c) distinct (t .whole-C) (s .whole-C) in
-        blinded-unique (positive p-prime) (points c) (s .A) (s .B) (s .C) (d .first) (d .second) (d .third)
+        blinded-unique p-positive (points c) (s .A) (s .B) (s .C) (d .first) (d .second) (d .third)
         (s .quotient) (rw (same-A, same-B, same-C) at (t .quotient))

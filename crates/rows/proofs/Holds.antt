@@ -1,30 +1,29 @@
--- Rows hold exactly where the lowest failing row is 0; else that row fails and every lower one holds.
+-- Document 01, number 10: no refusal exactly where every row holds; else the place is a row that fails, and every lower one holds.
 use mathlib.Core.List.{List}
-use mathlib.Core.Logic.{⊎-elim}
 use mathlib.Core.Path.{_≡_, sym, _∙_, ap}
-use Prim.Native.Nat.{ℕ, suc, _-_, _%_, _≤_, _<_}
+use Prim.Native.Nat.{ℕ, suc, _-_, _≤_, _<_}
 use native.Mathlib.Omega.{arith}
 use borrow.Author.Tests.{eq-eqb, eqb-true}
 use lib.Dec.{lit<}
 use Rattle.outcome.specs.declared.Outcome.{Outcome}
 use Rattle.outcome.specs.Verdict.{Accepted, Refused, outcome}
-use Rattle.outcome.proofs.Verdict.{accepted-require, require-accepted, accepted-each, accepted-first, accepted-or-refused, not-both, refused-first, first-same, require-refused, Proper, proper-require, proper-first}
+use Rattle.outcome.proofs.Verdict.{accepted-require, require-accepted, accepted-each, accepted-first, not-both, refused-first, first-same, require-refused, Proper, proper-require, proper-first}
 use Rattle.algebra.proofs.Congruence.{≈-product, ≈-reduced}
 use Rattle.field.specs.Field.{p}
 use Rattle.circuit.specs.Circuit.{rows, columns}
-use Rattle.circuit.proofs.Totals.{length-table, table-at}
 use Rattle.rows.specs.Rows.{rowSums, wholeSum, RowHolds, RowsHold, FailsFirst, rowVerdict, rowsVerdict, lowestFailing}
 use Rattle.rows.specs.Sums.{sumsVerdict, RowsRead}
+use Rattle.rows.proofs.Sums.{length-sums, sum-at}
 
 -- the verdict over the lists of sums is the one over the rows
 pub sums-rows : (c a : List ℕ) →
     sumsVerdict (rowSums c a 0 0 (columns c)) (rowSums c a 1 0 (columns c)) (rowSums c a 2 0 (columns c)) ≡ rowsVerdict c a
-unfolding sumsVerdict rowsVerdict rowVerdict rowSums
-sums-rows c a = rw (length-table (λ i. wholeSum c a 0 (suc i) % p) (rows c)) (first-same _ _ (rows c) (λ i l.
+unfolding sumsVerdict rowsVerdict rowVerdict
+sums-rows c a = rw (length-sums c a 0 0 (columns c)) (first-same _ _ (rows c) (λ i l.
     rw (
-      table-at (λ i. wholeSum c a 0 (suc i) % p) (rows c) i l,
-      table-at (λ i. wholeSum c a 1 (suc i) % p) (rows c) i l,
-      table-at (λ i. wholeSum c a 2 (suc i) % p) (rows c) i l,
+      sum-at c a 0 0 (columns c) i l,
+      sum-at c a 1 0 (columns c) i l,
+      sum-at c a 2 0 (columns c) i l,
       ≈-product (≈-reduced p (wholeSum c a 0 (suc i))) (≈-reduced p (wholeSum c a 1 (suc i))) .same,
     )))
 
@@ -76,15 +75,6 @@ module _ (c a : List ℕ) where
   pub proper-rows : Proper (rowsVerdict c a)
   unfolding rowsVerdict rowVerdict
   proper-rows = proper-first each (rows c) (λ i l. proper-require _ _ _ (lit< tt))
-
-  pub holds-zero : RowsHold c a → lowestFailing c a ≡ 0
-  holds-zero h = ap (λ (o : Outcome). o .place) (proper-rows .fine-if-accepted (holds-accepted h))
-
-  pub zero-holds : lowestFailing c a ≡ 0 → RowsHold c a
-  zero-holds h = ⊎-elim
-      (λ (good : Accepted (rowsVerdict c a)). accepted-holds good)
-      (λ (bad : Refused (rowsVerdict c a)). absurd (omega (arith, lowest-fails bad .1 .row .at-least)))
-      (accepted-or-refused (rowsVerdict c a))
 
 -- any two results that the contract of rows_verdict admits are equal
 pub one-result : {c w a b d a′ b′ d′ : List ℕ} {r r′ : Outcome} → RowsRead c w a b d r → RowsRead c w a′ b′ d′ r′ →

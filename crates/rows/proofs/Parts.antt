@@ -1,27 +1,28 @@
 -- Public and private sums make the whole, the sums that the calls ask for can be made, and the public sums of an
--- assignment are those of its public section alone.
+-- assignment are those of its public section alone. Document 01, "Query and checks".
 use mathlib.Core.List.{List}
 use mathlib.Core.Path.{_≡_, sym, ap}
-use Prim.Native.Nat.{ℕ, suc, _+_, _*_, _-_}
+use Prim.Native.Nat.{ℕ, suc, _+_, _*_, _-_, _≤_}
 use native.Mathlib.Nat.{zero-add, sub-zero}
 use native.Mathlib.Omega.{arith}
 use lib.ListN.{take}
+use Rattle.algebra.proofs.Combination.{total-split}
 use Rattle.circuit.specs.Circuit.{publics, columns, coef}
 use Rattle.circuit.specs.WellFormed.{Formed}
-use Rattle.circuit.proofs.Totals.{total-join, total-same}
+use Rattle.circuit.proofs.Totals.{total-same}
 use Rattle.assignment.specs.Assignment.{weight}
 use Rattle.assignment.specs.WellFormed.{AssignmentFormed, PublicFormed}
 use Rattle.assignment.proofs.Weights.{public-at, weight-inside, public-weight}
 use Rattle.rows.specs.Rows.{rowSum, wholeSum, publicSum, privateSum}
 use Rattle.rows.specs.Sums.{Span}
 
-pub parts-whole : {c : List ℕ} → Formed c → (a : List ℕ) (matrix i : ℕ) →
+pub parts-whole : (c a : List ℕ) → publics c ≤ columns c → (matrix i : ℕ) →
     publicSum c a matrix i + privateSum c a matrix i ≡ wholeSum c a matrix i
 unfolding rowSum
-parts-whole {c} formed a matrix i =
-    let all : publics c + (columns c - publics c) ≡ columns c = omega (arith, formed .public-count .at-most) in
+parts-whole c a few matrix i =
+    let all : publics c + (columns c - publics c) ≡ columns c = omega arith in
     let term : ℕ → ℕ = λ t. weight c a (suc t) * coef c matrix i (suc t) in
-    simp (zero-add, sub-zero) (sym (rw all at (total-join term (publics c) (columns c - publics c))))
+    simp (zero-add, sub-zero) (sym (rw all at (total-split term (publics c) (columns c - publics c))))
 
 pub public-alone : {c a : List ℕ} → Formed c → AssignmentFormed c a → (matrix i : ℕ) →
     publicSum c (take (publics c + 1) a) matrix i ≡ publicSum c a matrix i

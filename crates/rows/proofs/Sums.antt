@@ -1,17 +1,20 @@
 -- The loop's words are the row sums: adding an entry to its row makes the sums over one entry more, and the sums over all
--- entries of a section are those over the columns.
+-- entries of a section are those over the columns (document 01, "Polynomials"). Row sums are as many as rows, and field words.
 use mathlib.Core.Bool.{Bool, true, false}
 use mathlib.Core.List.{List}
 use mathlib.Core.Path.{_≡_, refl, sym, _∙_, ap}
 use Prim.Native.Nat.{ℕ, suc, _+_, _*_, _-_, _%_, _≤_, _<_}
+use native.Mathlib.Nat.{mod-lt}
 use native.Mathlib.Numerals.{add-one}
 use native.Mathlib.Omega.{arith}
 use borrow.Author.Tests.{eq-eqb, ne-eqb}
 use lib.Dec.{eqb}
-use lib.ListN.{length, set}
+use lib.ListN.{length, getD, set}
 use Rattle.outcome.specs.Verdict.{within, Within}
-use Rattle.field.specs.Field.{p}
+use Rattle.algebra.specs.Polynomial.{Words}
 use Rattle.algebra.proofs.Congruence.{≈-plus, ≈-reduced, ≈-refl}
+use Rattle.field.specs.Field.{p}
+use Rattle.field.proofs.PrimeField.{p-positive}
 use Rattle.circuit.specs.Circuit.{word, rows, entries, rowOf, columnOf, valueOf, section, coef}
 use Rattle.circuit.specs.WellFormed.{Formed}
 use Rattle.algebra.specs.Combination.{total}
@@ -85,10 +88,26 @@ all-entries {c} formed a matrix from to l up =
     table-same _ _ (rows c) (λ i below. ap (λ (x : ℕ). x % p)
     (sym (rw whole at (row-entries (formed .column-count .at-most) (formed .matrices matrix l) (weight c a) (suc i) from (to - from)))))
 
-pub length-sums : (c : List ℕ) (s : ℕ) (a : List ℕ) (from to k : ℕ) → length (entrySums c s a from to k) ≡ rows c
+pub length-entry-sums : (c : List ℕ) (s : ℕ) (a : List ℕ) (from to k : ℕ) → length (entrySums c s a from to k) ≡ rows c
 unfolding entrySums
-length-sums c s a from to k = length-table _ (rows c)
+length-entry-sums c s a from to k = length-table _ (rows c)
 
 pub no-entries : (c : List ℕ) (s : ℕ) (a : List ℕ) (from to : ℕ) → table (λ i. 0) (rows c) ≡ entrySums c s a from to 0
 unfolding entrySums total
 no-entries c s a from to = refl
+
+-- the row sums as a list
+module _ (c a : List ℕ) (matrix from to : ℕ) where
+  pub length-sums : length (rowSums c a matrix from to) ≡ rows c
+  unfolding rowSums
+  length-sums = length-table (λ i. rowSum c a matrix (suc i) from to % p) (rows c)
+
+  pub sum-at : (i : ℕ) → i < rows c → getD (rowSums c a matrix from to) i 0 ≡ rowSum c a matrix (suc i) from to % p
+  unfolding rowSums
+  sum-at i l = table-at (λ i. rowSum c a matrix (suc i) from to % p) (rows c) i l
+
+  pub sums-words : Words p (rowSums c a matrix from to)
+  sums-words = record {
+    below = λ i l.
+        rw (sum-at i (omega (arith, length-sums))) (mod-lt (rowSum c a matrix (suc i) from to) p-positive);
+  }

@@ -2,7 +2,7 @@
 ghost use mathlib.Core.Path.{_≡_};
 ghost use Prim.Native.Nat.{_+_, _≤_, _<_};
 ghost use lib.ListN.{length};
-ghost use Rattle.circuit.specs.Circuit.{rows, publics, columns, entries, entryAt, section};
+ghost use Rattle.circuit.specs.Circuit.{rows, publics, columns, entries, entryAt};
 ghost use Rattle.circuit.specs.WellFormed.{EntryFormed, SectionFormed, Formed};
 ghost use Rattle.circuit.specs.Totals.{table};
 ghost use Rattle.assignment.specs.Assignment.{weightAt};
@@ -16,7 +16,7 @@ fn weight_at(circuit: &[u32], column: usize) -> usize
     requires { ⌜ (3 ≤ length (now circuit)) × (column < 1024) ⌝ }
     ensures { λ r. ⌜ r ≡ weightAt (now (circuit .entry)) column ⌝ }
 {
-    if column <= circuit[1] as usize {
+    if column <= circuit::counts::publics_of(circuit) {
         return column;
     }
     column + 1
@@ -92,7 +92,7 @@ pub fn whole_sums(circuit: &[u32], matrix: usize, values: &[u32], out: &mut [u32
     requires { ⌜ Formed (now circuit) × (matrix < 3) × AssignmentFormed (now circuit) (now values) × (length (now out) ≡ rows (now circuit)) ⌝ }
     ensures { λ _. ⌜ now (out .exit) ≡ rowSums (now (circuit .entry)) (now (values .entry)) matrix 0 (columns (now (circuit .entry))) ⌝ }
 {
-    let n = circuit[2] as usize;
+    let n = circuit::counts::columns_of(circuit);
     row_sums(circuit, matrix, values, 0, n, out);
 }
 
@@ -101,7 +101,7 @@ pub fn public_sums(circuit: &[u32], matrix: usize, values: &[u32], out: &mut [u3
     requires { ⌜ Formed (now circuit) × (matrix < 3) × PublicFormed (now circuit) (now values) × (length (now out) ≡ rows (now circuit)) ⌝ }
     ensures { λ _. ⌜ now (out .exit) ≡ rowSums (now (circuit .entry)) (now (values .entry)) matrix 0 (publics (now (circuit .entry))) ⌝ }
 {
-    let q = circuit[1] as usize;
+    let q = circuit::counts::publics_of(circuit);
     row_sums(circuit, matrix, values, 0, q, out);
 }
 
@@ -110,8 +110,8 @@ pub fn private_sums(circuit: &[u32], matrix: usize, values: &[u32], out: &mut [u
     requires { ⌜ Formed (now circuit) × (matrix < 3) × AssignmentFormed (now circuit) (now values) × (length (now out) ≡ rows (now circuit)) ⌝ }
     ensures { λ _. ⌜ now (out .exit) ≡ rowSums (now (circuit .entry)) (now (values .entry)) matrix (publics (now (circuit .entry))) (columns (now (circuit .entry))) ⌝ }
 {
-    let q = circuit[1] as usize;
-    let n = circuit[2] as usize;
+    let q = circuit::counts::publics_of(circuit);
+    let n = circuit::counts::columns_of(circuit);
     row_sums(circuit, matrix, values, q, n, out);
 }
 

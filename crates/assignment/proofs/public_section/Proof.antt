@@ -20,15 +20,16 @@ unfolding publicSection
 returns c = sym (written-old _ _ (is-refused (c .before .before .before .assignment-verdict .ensures) (c .before .if1 .taken)))
 
 slice-aggregate-result-2 : tie.Need-slice-aggregate-result-2
-slice-aggregate-result-2 c = sym (length-take-le _ _ (omega (arith, formed (c .before .before))))
+slice-aggregate-result-2 c = sym (length-take-le _ _ (omega (arith, c .before .publics-of .ensures, formed (c .before .before))))
 
 returns-2 : tie.Need-returns-2
 unfolding publicSection
 returns-2 c =
     let else = c .before .before in
-    sym (written-new _ _ (is-accepted (else .before .before .assignment-verdict .ensures) (else .if1 .left)))
+    rw (c .before .publics-of .ensures)
+    (sym (written-new _ _ (is-accepted (else .before .before .assignment-verdict .ensures) (else .if1 .left))))
 
 pub public-section-spec : {M : Type 1} → statement M
 public-section-spec = tie.close
-    (tie.spec (λ c κs. search needs) (λ c. search needs) returns (λ c. omega (arith, formed (c .before))) (λ c. omega (arith, formed (c .before)))
-    (λ c. omega (arith, formed (c .before))) slice-aggregate-result-2 returns-2)
+    (tie.spec (λ c κs. search needs) (λ c. search needs) returns (λ c κs. formed c .0 .formed .counts)
+    (λ c. omega (arith, c .publics-of .ensures, formed (c .before))) slice-aggregate-result-2 returns-2)

@@ -10,7 +10,7 @@ use Rattle.circuit.specs.Circuit.{rows, entries}
 use Rattle.circuit.specs.WellFormed.{EntryFormed}
 use Rattle.circuit.proofs.Totals.{length-table}
 use Rattle.rows.specs.Sums.{entrySums, withEntry}
-use Rattle.rows.proofs.Sums.{next-entry, length-sums, no-entries}
+use Rattle.rows.proofs.Sums.{next-entry, length-entry-sums, no-entries}
 use Rattle.rows.proofs.add_entries.Statement.{statement}
 use Rattle.rows.proofs.add_entries.Tie as tie
 
@@ -19,7 +19,7 @@ record Added (c : List ℕ) (start : ℕ) (a : List ℕ) (from to : ℕ) (out : 
   words : out ≡ entrySums c start a from to e
 
 size : {c a out : List ℕ} {start from to e : ℕ} → Added c start a from to out e → length out ≡ rows c
-size {c} {a} {start = start} {from = from} {to = to} {e = e} h = ap length (h .words) ∙ length-sums c start a from to e
+size {c} {a} {start = start} {from = from} {to = to} {e = e} h = ap length (h .words) ∙ length-entry-sums c start a from to e
 
 next : {c a out new : List ℕ} {start from to e : ℕ} → Added c start a from to out e → EntryFormed c start e → e < entries c start →
     new ≡ withEntry c start a from to e out → Added c start a from to new (e + 1)

@@ -5,8 +5,10 @@ use Rattle.rows.proofs.public_sums.Statement.{statement}
 use Rattle.rows.proofs.public_sums.Tie as tie
 
 row-sums-requires : tie.Need-row-sums-requires
-row-sums-requires c κs = search (needs, span-public)
+row-sums-requires c κs = rw (c .before .publics-of .ensures) (search (needs, span-public))
+
+returns : tie.Need-returns
+returns c = rw (← c .before .before .before .before .publics-of .ensures) (search needs)
 
 pub public-sums-spec : {M : Type 1} → statement M
-public-sums-spec =
-    tie.close (tie.spec (λ c. search needs) (λ c. search needs) row-sums-requires (λ c. search needs) (λ c. search needs))
+public-sums-spec = tie.close (tie.spec (λ c κs. search needs) row-sums-requires (λ c. search needs) returns)

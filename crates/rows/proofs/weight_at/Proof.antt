@@ -8,5 +8,4 @@ use Rattle.rows.proofs.weight_at.Tie as tie
 
 pub weight-at-spec : {M : Type 1} → statement M
 weight-at-spec = tie.close
-    (tie.spec (λ c. search needs) (λ c. omega (arith, c .shared-slice-known .given 1)) (λ c. sym (public-at _ _ (c .if1 .taken)))
-    (λ c. search needs) (λ c. sym (private-at _ _ (c .if1 .left))))
+    (tie.spec (λ c κs. search needs) (λ c. sym (public-at _ _ (omega arith))) (λ c. search needs) (λ c. sym (private-at _ _ (omega arith))))

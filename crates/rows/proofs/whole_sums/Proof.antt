@@ -5,8 +5,10 @@ use Rattle.rows.proofs.whole_sums.Statement.{statement}
 use Rattle.rows.proofs.whole_sums.Tie as tie
 
 row-sums-requires : tie.Need-row-sums-requires
-row-sums-requires c κs = search (needs, span-whole)
+row-sums-requires c κs = rw (c .before .columns-of .ensures) (search (needs, span-whole))
+
+returns : tie.Need-returns
+returns c = rw (← c .before .before .before .before .columns-of .ensures) (search needs)
 
 pub whole-sums-spec : {M : Type 1} → statement M
-whole-sums-spec =
-    tie.close (tie.spec (λ c. search needs) (λ c. search needs) row-sums-requires (λ c. search needs) (λ c. search needs))
+whole-sums-spec = tie.close (tie.spec (λ c κs. search needs) row-sums-requires (λ c. search needs) returns)
