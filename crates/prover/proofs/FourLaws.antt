@@ -1,5 +1,5 @@
 -- The four numbers that the box computes are the four answers: three private parts with blinders, and (u v − t) / Z(s),
--- which is H'(s) because A'(s) B'(s) − C'(s) = Z(s) H'(s) and Z(s) is not 0.
+-- which is H'(s) because A'(s) B'(s) − C'(s) = Z(s) H'(s) and Z(s) is not 0. Document 01, "Query and checks".
 use mathlib.Core.Path.{_≡_}
 use mathlib.Core.List.{List}
 use Prim.Native.Nat.{ℕ, _+_, _*_, _%_, _<_}
@@ -10,11 +10,11 @@ use Rattle.algebra.specs.Polynomial.{value}
 use Rattle.algebra.specs.Points.{Distinct}
 use Rattle.algebra.specs.Blinding.{blinded}
 use Rattle.algebra.proofs.Congruence.{≈-sym, ≈-trans, ≈-plus, ≈-times, ≈-product, ≈-reduced, ≈-words, by}
-use Rattle.algebra.proofs.Inverse.{positive, cancel}
+use Rattle.algebra.proofs.Inverse.{cancel}
 use Rattle.algebra.proofs.Polynomial.{value-sum, value-multiple}
 use Rattle.algebra.proofs.Blinding.{divides-value}
 use Rattle.field.specs.Field.{p}
-use Rattle.field.proofs.PrimeField.{p-prime}
+use Rattle.field.proofs.PrimeField.{p-prime, p-positive}
 use Rattle.circuit.specs.Circuit.{publics, columns, points}
 use Rattle.rows.specs.Rows.{RowsHold}
 use Rattle.qap.specs.declared.Blinders.{Blinders}
@@ -42,7 +42,7 @@ module _ (c a : List ℕ) (distinct : Distinct p (points c)) (d : Blinders) (s :
       by
       (≈-plus (≈-plus (≈-sym e) (≈-product u v)) (≈-plus (divides-value (q .quotient .divides) s) (≈-plus (≈-sym t) (≈-times r (≈-sym plain)))))
       (omega arith) in
-      ≈-words (≈-trans (cancel p-prime Z off same) (≈-sym (≈-reduced p (value h s)))) below (mod-lt (value h s) (positive p-prime))
+      ≈-words (≈-trans (cancel p-prime Z off same) (≈-sym (≈-reduced p (value h s)))) below (mod-lt (value h s) p-positive)
 
   pub four-answers : RowsHold c a → {own all : Three} {z r : ℕ} → ThreeAt c a (publics c) d s own → ThreeAt c a 0 d s all → z ≡ value (targetOf c) s % p →
       r < p → all .first * all .second ≈⟨ p ⟩ all .third + z * r →

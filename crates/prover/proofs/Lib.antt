@@ -1,2 +1,1 @@
-pub mod PartValues
 pub mod FourLaws

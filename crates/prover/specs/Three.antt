@@ -10,11 +10,7 @@ use Rattle.qap.specs.declared.Blinders.{Blinders}
 use Rattle.qap.specs.Polynomials.{Part, targetOf}
 use Rattle.prover.specs.declared.point.Three.{Three}
 
--- the value at s of every list that is the part
-abbrev pub PartAt : List ℕ → List ℕ → ℕ → ℕ → ℕ → ℕ → ℕ → Type 0
-PartAt c a matrix from to s r = (f : List ℕ) → Part c a matrix from to f → r ≡ value f s % p
-
--- with d times the target at s
+-- the value at s of every list that is the part, with d times the target's
 abbrev pub BlindedAt : List ℕ → List ℕ → ℕ → ℕ → ℕ → ℕ → ℕ → Type 0
 BlindedAt c a matrix from d s r = (f : List ℕ) → Part c a matrix from (columns c) f → r ≡ (value f s + d * value (targetOf c) s) % p
 

@@ -1,40 +1,21 @@
-// Values at a point without a polynomial (document 01, "Query and checks"): row sums times basis values.
+// Three parts at a point with their blinders, and the quotient's value there (document 01, "Query and checks").
 ghost use mathlib.Core.Path.{_≡_};
 ghost use Prim.Native.Nat.{ℕ, _+_, _*_, _<_};
 ghost use lib.ListN.{length};
 ghost use Rattle.algebra.specs.Congruence.{_≈⟨_⟩_};
-ghost use Rattle.algebra.specs.Basis.{BasisValues};
 ghost use Rattle.field.specs.Field.{p};
 ghost use Rattle.basis.specs.BasisAt.{BasisAt};
-ghost use Rattle.circuit.specs.Circuit.{rows, columns, points};
+ghost use Rattle.circuit.specs.Circuit.{rows, columns};
 ghost use Rattle.circuit.specs.WellFormed.{Formed};
 ghost use Rattle.rows.specs.Sums.{Span};
 ghost use Rattle.qap.specs.declared.Blinders.{Blinders};
-ghost use Rattle.prover.specs.Three.{PartAt, ThreeAt};
+ghost use Rattle.prover.specs.Three.{ThreeAt};
 use qap::Blinders;
 
 pub struct Three {
     pub first: u32,
     pub second: u32,
     pub third: u32,
-}
-
-// A part of a matrix at the point whose basis values b are; y has room for the row sums.
-pub fn part_value(
-    circuit: &[u32],
-    matrix: usize,
-    values: &[u32],
-    from: usize,
-    to: usize,
-    b: &[u32],
-    y: &mut [u32],
-) -> u32
-    requires { ⌜ Formed (now circuit) × (matrix < 3) × Span (now circuit) (now values) from to ⌝ }
-    requires { ⌜ (length (now y) ≡ rows (now circuit)) × (length (now b) ≡ rows (now circuit)) ⌝ }
-    ensures { λ r. ⌜ ((s : ℕ) → BasisValues p (points (now (circuit .entry))) s (now (b .entry)) → PartAt (now (circuit .entry)) (now (values .entry)) matrix from to s r) ⌝ }
-{
-    rows::row_sums(circuit, matrix, values, from, to, y);
-    basis::dot(y, b)
 }
 
 // The parts of A, B, C over the columns after `from`, with d1 z, d2 z, d3 z added; z is the target's value.
@@ -52,11 +33,11 @@ pub fn three_at(
     ensures { λ r. ⌜ ((s : ℕ) → BasisAt p (rows (now (circuit .entry))) s (now (b .entry)) z → ThreeAt (now (circuit .entry)) (now (values .entry)) from d s r) ⌝ }
 {
     let n = circuit::counts::columns_of(circuit);
-    let a = part_value(circuit, 0, values, from, n, b, y);
+    let a = parts::part_value(circuit, 0, values, from, n, b, y);
     let first = field::add_scaled(a, d.first, z);
-    let c = part_value(circuit, 1, values, from, n, b, y);
+    let c = parts::part_value(circuit, 1, values, from, n, b, y);
     let second = field::add_scaled(c, d.second, z);
-    let e = part_value(circuit, 2, values, from, n, b, y);
+    let e = parts::part_value(circuit, 2, values, from, n, b, y);
     Three {
         first,
         second,

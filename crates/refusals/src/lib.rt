@@ -2,7 +2,6 @@
 ghost use mathlib.Core.Path.{_≡_};
 ghost use Prim.Native.Nat.{_≤_};
 ghost use lib.ListN.{length};
-ghost use Rattle.circuit.specs.Circuit.{rows};
 ghost use Rattle.circuit.specs.WellFormed.{Formed};
 ghost use Rattle.assignment.specs.Assignment.{wordsVerdict};
 ghost use Rattle.assignment.specs.WellFormed.{AssignmentFormed};

@@ -1,20 +1,19 @@
 -- The values' list with a word 0 behind it, plus d times the target, is A' for the A through the values.
-use mathlib.Core.Path.{_≡_, refl, sym, _∙_, ap}
+-- Document 01, "Polynomials".
+use mathlib.Core.Path.{_≡_, _∙_, ap}
 use mathlib.Core.List.{List, [], _∷_, _++_}
-use Prim.Native.Nat.{ℕ, suc, _+_, _*_, _<_, _≤_}
+use Prim.Native.Nat.{ℕ, suc, _+_, _<_, _≤_}
 use native.Mathlib.Omega.{arith}
 use lib.ListN.{length, getD, take, drop, set, length-set, length-append, drop-of-length-le}
 use lib.Seq.{drop-cons, getD-set-same, getD-take, take-set-le, length-take-le}
-use Rattle.algebra.specs.Congruence.{_≈⟨_⟩_}
-use Rattle.algebra.specs.Polynomial.{Words, sum, multiple, _≋⟨_⟩_}
+use Rattle.algebra.specs.Polynomial.{Words}
 use Rattle.algebra.specs.Points.{Through, consecutive, target}
-use Rattle.algebra.proofs.Congruence.{≈-trans, ≈-eq, ≈-plus, ≈-refl}
-use Rattle.algebra.proofs.Inverse.{positive}
+use Rattle.algebra.proofs.Congruence.{≈-trans, ≈-eq}
 use Rattle.algebra.proofs.Weights.{weigh, by-weights, weigh-sum, weigh-multiple}
 use Rattle.algebra.proofs.Consecutive.{length-consecutive}
 use Rattle.algebra.proofs.Target.{length-target}
 use Rattle.field.specs.Field.{p, InverseTable}
-use Rattle.field.proofs.PrimeField.{p-prime}
+use Rattle.field.proofs.PrimeField.{p-prime, p-positive}
 use Rattle.poly.specs.AddScaled.{scaled}
 use Rattle.poly.specs.Interpolation.{interpolated}
 use Rattle.poly.proofs.Words.{words-cons, words-append, weigh-append}
@@ -60,13 +59,10 @@ module _ (m : ℕ) (out : List ℕ) (size : length out ≡ m + 1) where
         plain = f;
         through = through;
         size = rw (e, length-scaled) (omega arith);
-        words = rw e (words-scaled pos d z (f ++ 0 ∷ []) (words-append f (0 ∷ []) (through .words) (words-cons pos none)));
+        words = rw e (words-scaled p-positive d z (f ++ 0 ∷ []) (words-append f (0 ∷ []) (through .words) (words-cons p-positive none)));
         same = by-weights (λ φ. rw (e, weigh-sum, weigh-multiple, ← target-z)
             (≈-trans (weigh-scaled p d z (f ++ 0 ∷ []) φ fits) (≈-eq p (rw weigh-append (omega arith)))));
       }
     where
-      pos : 0 < p
-      pos = positive p-prime
-
       none : Words p []
       none = record { below = λ i l. absurd (omega arith) }

@@ -1,22 +1,22 @@
 -- From the words of A', B', C' in the room to the quotient of the definition, and to what the division check compares.
-use mathlib.Core.Path.{_≡_, sym, _∙_}
+-- Document 01, "Polynomials".
+use mathlib.Core.Path.{_≡_}
 use mathlib.Core.List.{List}
-use Prim.Native.Nat.{ℕ, suc, _+_, _*_, _<_, _≤_}
+use Prim.Native.Nat.{ℕ, suc, _<_, _≤_}
 use native.Mathlib.Omega.{arith}
 use lib.ListN.{length, getD}
 use Rattle.algebra.specs.Congruence.{_≈⟨_⟩_}
-use Rattle.algebra.specs.Polynomial.{Words, value, sum, product, reduced, _≋⟨_⟩_}
-use Rattle.algebra.specs.Points.{Distinct, Through, target}
-use Rattle.algebra.specs.Blinding.{Holds, Divides, blinded}
+use Rattle.algebra.specs.Polynomial.{value, product, reduced}
+use Rattle.algebra.specs.Points.{Distinct}
+use Rattle.algebra.specs.Blinding.{Holds, Divides}
 use Rattle.algebra.proofs.Congruence.{≈-sym, ≈-trans, ≈-plus, ≈-times, ≈-product, by}
-use Rattle.algebra.proofs.Inverse.{positive}
 use Rattle.algebra.proofs.Polynomial.{value-sum, value-multiple}
 use Rattle.algebra.proofs.Same.{≋-sym, ≋-value}
 use Rattle.algebra.proofs.Consecutive.{length-consecutive}
 use Rattle.algebra.proofs.Target.{length-target, target-zero}
 use Rattle.algebra.proofs.Blinding.{divides-alike}
 use Rattle.field.specs.Field.{p}
-use Rattle.field.proofs.PrimeField.{p-prime}
+use Rattle.field.proofs.PrimeField.{p-positive}
 use Rattle.poly.specs.Product.{within}
 use Rattle.circuit.specs.Circuit.{rows, columns, points}
 use Rattle.rows.specs.Rows.{RowsHold, wholeSum}
@@ -24,7 +24,7 @@ use Rattle.qap.specs.declared.Blinders.{Blinders}
 use Rattle.qap.specs.Polynomials.{Whole, targetOf, IsQuotient}
 use Rattle.qap.specs.Answers.{CandidateDivides}
 use Rattle.qap.proofs.Parts.{through-part, part-unique}
-use Rattle.qap.proofs.Quotients.{rows-to-points}
+use Rattle.qap.proofs.Quotients.{candidate-quotient}
 use Rattle.room.specs.Room.{leftSide, roomQuotient}
 use Rattle.room.specs.Blinded.{BlindedThrough}
 use Rattle.room.proofs.RoomLaws.{room-quotient, room-quotient-size, room-quotient-words, rooms-equal, equal-rooms}
@@ -48,7 +48,7 @@ blinded-alike same b = record {
 at-points : {xs : List ℕ} {y : ℕ → ℕ} {d : ℕ} {g : List ℕ} → BlindedThrough xs y d g → (i : ℕ) → i < length xs → value g (getD xs i 0) ≈⟨ p ⟩ y i
 at-points {xs} {y} {d} {g} b i l =
     let x = getD xs i 0 in
-    let zero = target-zero (positive p-prime) xs .zero-at i l in
+    let zero = target-zero p-positive xs .zero-at i l in
     ≈-trans (≋-value (b .same) x)
     (rw (value-sum, value-multiple) (by (≈-plus (b .through .takes i l) (≈-times d zero)) (omega arith)))
 
@@ -77,6 +77,18 @@ module _ (c a : List ℕ) (few : rows c ≤ 256) (distinct : Distinct p (points 
   whole-C : Whole c a 2 (bk .plain)
   whole-C = through-part c a 2 0 (columns c) distinct (bk .through)
 
+  -- what divides A'B' − C' is a candidate that the division check accepts
+  candidate : {h : List ℕ} → Divides p (points c) f g k h → CandidateDivides c a d h
+  candidate divides = record {
+    A = bf .plain;
+    B = bg .plain;
+    C = bk .plain;
+    whole-A = whole-A;
+    whole-B = whole-B;
+    whole-C = whole-C;
+    divides = divides-alike (bf .same) (bg .same) (bk .same) divides;
+  }
+
   pub quotient-law : RowsHold c a → IsQuotient c a d (roomQuotient (rows c) (leftSide f g k))
   quotient-law hold =
       let holds : Holds p (points c) f g k = record {
@@ -84,19 +96,9 @@ module _ (c a : List ℕ) (few : rows c ≤ 256) (distinct : Distinct p (points 
             ≈-trans (≈-product (at-points bf i l) (at-points bg i l))
             (≈-trans (hold .at-row (suc i) (omega arith) (omega (arith, points-count)) .equal) (≈-sym (at-points bk i l)));
       } in
-      record {
-        A = bf .plain;
-        B = bg .plain;
-        C = bk .plain;
-        whole-A = whole-A;
-        whole-B = whole-B;
-        whole-C = whole-C;
-        quotient = record {
-          size = omega (arith, room-quotient-size (rows c) few f g k size-f size-g size-k, points-count);
-          words = room-quotient-words (rows c) few f g k size-f size-g size-k;
-          divides = divides-alike (bf .same) (bg .same) (bk .same) (room-quotient (rows c) few f g k size-f size-g size-k holds);
-        };
-      }
+      candidate-quotient c a distinct d (omega (arith, room-quotient-size (rows c) few f g k size-f size-g size-k, points-count))
+      (room-quotient-words (rows c) few f g k size-f size-g size-k)
+      (candidate (room-quotient (rows c) few f g k size-f size-g size-k holds))
 
   module _ (h : List ℕ) (size-h : length h ≡ suc (rows c)) where
     size-z : length (targetOf c) ≡ suc (rows c)
@@ -113,13 +115,4 @@ module _ (c a : List ℕ) (few : rows c ≤ 256) (distinct : Distinct p (points 
         (divides-alike (≋-sym (bf .same)) (≋-sym (bg .same)) (≋-sym (bk .same)) divides .equal)
 
     pub rooms-candidate : leftSide f g k ≡ within 513 (reduced p (product (targetOf c) h)) → CandidateDivides c a d h
-    rooms-candidate e = record {
-      A = bf .plain;
-      B = bg .plain;
-      C = bk .plain;
-      whole-A = whole-A;
-      whole-B = whole-B;
-      whole-C = whole-C;
-      divides = divides-alike (bf .same) (bg .same) (bk .same)
-          (record { equal = rooms-equal (rows c) few f g k size-f size-g size-k (targetOf c) h size-z size-h e });
-    }
+    rooms-candidate e = candidate (record { equal = rooms-equal (rows c) few f g k size-f size-g size-k (targetOf c) h size-z size-h e })

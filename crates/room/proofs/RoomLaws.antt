@@ -1,8 +1,8 @@
 -- The room holds A'B' − C': its quotient by the target is the quotient of the definition where A'B' − C' is 0 at all points,
--- and it holds the same words as Z times a candidate exactly where the candidate divides.
+-- and it holds the same words as Z times a candidate exactly where the candidate divides. Document 01, "Polynomials".
 use mathlib.Core.Path.{_≡_, sym, _∙_}
 use mathlib.Core.List.{List}
-use Prim.Native.Nat.{ℕ, suc, _+_, _*_, _-_, _<_, _≤_}
+use Prim.Native.Nat.{ℕ, suc, _+_, _*_, _-_, _≤_}
 use native.Mathlib.Decide.{decLt}
 use native.Mathlib.Omega.{arith}
 use lib.ListN.{length, getD, take, length-take, List·getD-eq-default}
@@ -11,23 +11,19 @@ use Rattle.algebra.specs.Polynomial.{Words, sum, product, reduced, _≋⟨_⟩_
 use Rattle.algebra.specs.Points.{Vanishes, consecutive}
 use Rattle.algebra.specs.Blinding.{Holds, Divides}
 use Rattle.algebra.proofs.Congruence.{≈-refl, ≈-trans, ≈-plus, ≈-negative, by}
-use Rattle.algebra.proofs.Inverse.{positive}
 use Rattle.algebra.proofs.Polynomial.{length-reduced, value-product}
 use Rattle.algebra.proofs.Weights.{weigh, weights, by-weights, weigh-sum}
 use Rattle.algebra.proofs.Same.{≋-sym, ≋-trans, ≋-value, ≋-reduced, reduced-words, words-equal}
 use Rattle.algebra.proofs.Difference.{difference, length-difference, weigh-difference, difference-value, difference-sum}
 use Rattle.algebra.proofs.Consecutive.{length-consecutive, distinct-consecutive}
 use Rattle.field.specs.Field.{p}
-use Rattle.field.proofs.PrimeField.{p-prime}
+use Rattle.field.proofs.PrimeField.{p-prime, p-positive}
 use Rattle.poly.specs.Product.{within}
 use Rattle.poly.proofs.Words.{words-take}
 use Rattle.poly.proofs.ScaledLaws.{length-scaled, words-scaled, weigh-scaled}
 use Rattle.poly.proofs.ProductLaws.{length-within, words-within, weigh-within, length-product-fits}
 use Rattle.poly.proofs.DivisionLaws.{quotient-exact, length-quotient, words-quotient}
 use Rattle.room.specs.Room.{leftSide, roomQuotient}
-
-pos : 0 < p
-pos = positive p-prime
 
 -- a product in the room
 within-same : (f g : List ℕ) → within 513 (reduced p (product f g)) ≋⟨ p ⟩ product f g
@@ -38,7 +34,7 @@ module _ (m : ℕ) (few : m ≤ 256) (f g : List ℕ) (size-f : length f ≡ suc
   length-room = length-within 513 (reduced p (product f g)) (rw length-reduced (length-product-fits f g 513 (omega arith) (omega arith)))
 
   words-room : Words p (within 513 (reduced p (product f g)))
-  words-room = words-within pos 513 (reduced p (product f g)) (reduced-words pos (product f g))
+  words-room = words-within p-positive 513 (reduced p (product f g)) (reduced-words p-positive (product f g))
 
 module _ (m : ℕ) (few : m ≤ 256) (a b c : List ℕ) (size-a : length a ≡ suc m) (size-b : length b ≡ suc m) (size-c : length c ≡ suc m) where
   length-left : length (leftSide a b c) ≡ 513
@@ -47,7 +43,7 @@ module _ (m : ℕ) (few : m ≤ 256) (a b c : List ℕ) (size-a : length a ≡ s
 
   words-left : Words p (leftSide a b c)
   unfolding leftSide
-  words-left = words-scaled pos (p - 1) c (within 513 (reduced p (product a b))) (words-room m few a b size-a size-b)
+  words-left = words-scaled p-positive (p - 1) c (within 513 (reduced p (product a b))) (words-room m few a b size-a size-b)
 
   left-same : leftSide a b c ≋⟨ p ⟩ difference p (product a b) c
   unfolding leftSide
@@ -80,11 +76,11 @@ module _ (m : ℕ) (few : m ≤ 256) (a b c : List ℕ) (size-a : length a ≡ s
       let size : length f ≡ m + m + 1 = length-take-le (m + m + 1) (leftSide a b c) (omega (arith, length-left)) in
       let zero : Vanishes p f xs = record {
         zero-at = λ i l.
-            ≈-trans (≋-value front-same (getD xs i 0)) (difference-value pos (product a b) c (getD xs i 0) (rw value-product (holds .at-each i l)));
+            ≈-trans (≋-value front-same (getD xs i 0)) (difference-value p-positive (product a b) c (getD xs i 0) (rw value-product (holds .at-each i l)));
       } in
       let q = quotient-exact p-prime xs f (omega (arith, length-consecutive 1 m)) (words-take (m + m + 1) (leftSide a b c) words-left)
       (distinct-consecutive 1 m (omega arith)) zero in
-      record { equal = difference-sum pos (product a b) c (≋-trans (≋-sym front-same) (q .exact)) }
+      record { equal = difference-sum p-positive (product a b) c (≋-trans (≋-sym front-same) (q .exact)) }
 
   pub room-quotient-size : length (roomQuotient m (leftSide a b c)) ≡ suc m
   unfolding roomQuotient
@@ -104,12 +100,12 @@ module _ (m : ℕ) (few : m ≤ 256) (a b c : List ℕ) (size-a : length a ≡ s
   module _ (z h : List ℕ) (size-z : length z ≡ suc m) (size-h : length h ≡ suc m) where
     -- the room of Z times a candidate holds the same words exactly where A'B' − C' = Z h
     pub rooms-equal : leftSide a b c ≡ within 513 (reduced p (product z h)) → product a b ≋⟨ p ⟩ sum c (product z h)
-    rooms-equal e = difference-sum pos (product a b) c (≋-trans (≋-sym left-same) (rw e (within-same z h)))
+    rooms-equal e = difference-sum p-positive (product a b) c (≋-trans (≋-sym left-same) (rw e (within-same z h)))
 
     pub equal-rooms : product a b ≋⟨ p ⟩ sum c (product z h) → leftSide a b c ≡ within 513 (reduced p (product z h))
     equal-rooms e =
         words-equal (length-left ∙ sym (length-room m few z h size-z size-h)) words-left (words-room m few z h size-z size-h)
         (≋-trans left-same (≋-trans (by-weights (λ φ.
         rw (weigh-difference p (product a b) c φ)
-        (by (≈-plus (rw weigh-sum at (weights (product a b) (sum c (product z h)) e φ)) (≈-negative pos (weigh c φ))) (omega arith))))
+        (by (≈-plus (rw weigh-sum at (weights (product a b) (sum c (product z h)) e φ)) (≈-negative p-positive (weigh c φ))) (omega arith))))
         (≋-sym (within-same z h))))

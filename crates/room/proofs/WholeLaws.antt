@@ -1,40 +1,21 @@
--- Row sums in front of a word of room: they are words, and the values of the whole list at the points.
+-- Row sums in front of a word of room: with it they make A' (document 01, "Polynomials").
 use mathlib.Core.Path.{_≡_, sym, _∙_, ap}
 use mathlib.Core.List.{List, _++_}
-use Prim.Native.Nat.{ℕ, suc, _+_, _%_, _<_, _≤_}
-use native.Mathlib.Nat.{mod-lt}
+use Prim.Native.Nat.{ℕ, suc, _+_, _<_, _≤_}
 use native.Mathlib.Omega.{arith}
 use lib.ListN.{length, getD, take, drop, length-append, length-drop, List·getD-append}
 use lib.Seq.{take-at}
-use Rattle.algebra.specs.Congruence.{_≈⟨_⟩_}
 use Rattle.algebra.specs.Polynomial.{Words}
-use Rattle.algebra.specs.Points.{consecutive, target}
+use Rattle.algebra.specs.Points.{consecutive}
 use Rattle.algebra.proofs.Congruence.{≈-reduced}
-use Rattle.algebra.proofs.Inverse.{positive}
 use Rattle.algebra.proofs.Consecutive.{length-consecutive}
 use Rattle.field.specs.Field.{p}
-use Rattle.field.proofs.PrimeField.{p-prime}
 use Rattle.circuit.specs.Circuit.{rows, columns, points}
-use Rattle.circuit.proofs.Totals.{length-table, table-at}
-use Rattle.rows.specs.Rows.{rowSum, rowSums, wholeSum}
+use Rattle.rows.specs.Rows.{rowSums, wholeSum}
+use Rattle.rows.proofs.Sums.{length-sums, sum-at, sums-words}
 use Rattle.room.specs.Blinded.{BlindedThrough}
 use Rattle.room.specs.Sides.{BlindedWhole, Given}
 use Rattle.room.proofs.QuotientLaws.{blinded-alike}
-
-module _ (c a : List ℕ) (matrix from to : ℕ) where
-  pub length-sums : length (rowSums c a matrix from to) ≡ rows c
-  unfolding rowSums
-  length-sums = length-table (λ i. rowSum c a matrix (suc i) from to % p) (rows c)
-
-  pub sum-at : (i : ℕ) → i < rows c → getD (rowSums c a matrix from to) i 0 ≡ rowSum c a matrix (suc i) from to % p
-  unfolding rowSums
-  sum-at i l = table-at (λ i. rowSum c a matrix (suc i) from to % p) (rows c) i l
-
-  pub sums-words : Words p (rowSums c a matrix from to)
-  sums-words = record {
-    below = λ i l.
-        rw (sum-at i (omega (arith, length-sums))) (mod-lt (rowSum c a matrix (suc i) from to) (positive p-prime));
-  }
 
 module _ (c a : List ℕ) (matrix m : ℕ) (out sums : List ℕ) (count : m ≡ rows c) (room : length out ≡ m + 1)
     (made : sums ≡ rowSums c a matrix 0 (columns c)) where

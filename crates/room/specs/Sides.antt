@@ -1,8 +1,7 @@
 -- The room of a circuit, an assignment and blinders: A'B' − C' for the lists A', B', C' of document 01, "Polynomials".
 use mathlib.Core.Path.{_≡_}
 use mathlib.Core.List.{List}
-use Prim.Native.Nat.{ℕ, suc, _≤_, _+_, _<_}
-use lib.ListN.{length}
+use Prim.Native.Nat.{ℕ, suc}
 use Rattle.algebra.specs.Points.{target}
 use Rattle.field.specs.Field.{p, InverseTable}
 use Rattle.circuit.specs.Circuit.{rows, points}

@@ -1,32 +1,24 @@
--- The answer check's equality from words: row sums times basis values are the public parts at s, and with them the
--- words agree exactly where the answers do.
+-- The answer check's equality (document 01, "Query and checks") from words: with the public parts at s added, the words agree
+-- exactly where the answers do.
 use mathlib.Core.Bool.{Bool}
-use mathlib.Core.Path.{_≡_, sym, _∙_, ap}
+use mathlib.Core.Path.{_≡_, sym, _∙_}
 use mathlib.Core.List.{List}
-use Prim.Native.Nat.{ℕ, suc, _+_, _*_, _%_, _<_}
-use native.Mathlib.Omega.{arith}
-use lib.ListN.{length, getD}
+use Prim.Native.Nat.{ℕ, _+_, _*_, _%_}
 use Rattle.outcome.specs.Verdict.{Accepted}
 use Rattle.algebra.specs.Congruence.{_≈⟨_⟩_}
 use Rattle.algebra.specs.Polynomial.{value}
-use Rattle.algebra.specs.Combination.{total}
 use Rattle.algebra.proofs.Congruence.{≈-refl, ≈-sym, ≈-trans, ≈-plus, ≈-product, ≈-reduced}
-use Rattle.algebra.proofs.Consecutive.{length-consecutive}
 use Rattle.field.specs.Field.{p}
-use Rattle.field.proofs.PrimeField.{p-prime}
 use Rattle.basis.specs.BasisAt.{BasisAt}
-use Rattle.basis.proofs.OneAnswer.{dot-value}
 use Rattle.circuit.specs.Circuit.{rows, publics}
 use Rattle.circuit.specs.Reader.{circuitVerdict}
-use Rattle.rows.specs.Rows.{rowSums, publicSum}
+use Rattle.parts.specs.PartAt.{PartAt}
 use Rattle.qap.specs.declared.FourAnswers.{FourAnswers}
 use Rattle.qap.specs.Polynomials.{PublicPart, targetOf}
 use Rattle.qap.specs.Answers.{AnswersAgree}
-use Rattle.qap.proofs.Parts.{part-through, part-exists}
+use Rattle.qap.proofs.Parts.{part-exists}
 use Rattle.qap.proofs.Settings.{distinct-points}
-use Rattle.room.proofs.WholeLaws.{length-sums, sum-at}
 use Rattle.verifier.specs.Decides.{Decides}
-use Rattle.verifier.specs.PublicValue.{PublicValue}
 use Rattle.verifier.proofs.Deciding.{decides-other}
 
 -- reduced words are equal exactly where what they stand for is congruent
@@ -44,28 +36,15 @@ module _ (r : FourAnswers) (a b c z : ℕ) {u v t x y : ℕ} (first : u ≡ (r .
   pub words-same : (r .first + a) * (r .second + b) ≈⟨ p ⟩ (r .third + c) + z * r .fourth → x ≡ y
   words-same e = left-word ∙ e .same ∙ sym right-word
 
-module _ (c b : List ℕ) (accepted : Accepted (circuitVerdict c)) where
-  pub public-value-law : (matrix : ℕ) (y bs : List ℕ) {r : ℕ} → y ≡ rowSums c b matrix 0 (publics c) →
-      r ≡ total (λ i. getD y i 0 * getD bs i 0) (length y) % p → PublicValue c b matrix bs r
-  public-value-law matrix y bs made e = record {
-    is-value = λ s f basis part.
-        let t = part-through c b matrix 0 (publics c) part in
-        dot-value p-prime (distinct-points c accepted) s y basis
-        (record {
-          size = t .size;
-          words = t .words;
-          takes = λ i l. ≈-trans (t .takes i l) (word-at i (omega (arith, length-consecutive 1 (rows c))));
-        })
-        (ap length made ∙ length-sums c b matrix 0 (publics c) ∙ sym (length-consecutive 1 (rows c))) e;
-  }
-    where
-      word-at : (i : ℕ) → i < rows c → publicSum c b matrix (suc i) ≈⟨ p ⟩ getD y i 0
-      word-at i l = rw (made, sum-at c b matrix 0 (publics c) i l) (≈-sym (≈-reduced p (publicSum c b matrix (suc i))))
+-- the words of the public parts at s
+abbrev PublicAt : List ℕ → List ℕ → ℕ → ℕ → ℕ → Type 0
+PublicAt c b matrix s x = PartAt c b matrix 0 (publics c) s x
 
+module _ (c b : List ℕ) (accepted : Accepted (circuitVerdict c)) where
   module _ (s : ℕ) (r : FourAnswers) {bs : List ℕ} {z A B C : ℕ} (at : BasisAt p (rows c) s bs z)
-      (first : PublicValue c b 0 bs A) (second : PublicValue c b 1 bs B) (third : PublicValue c b 2 bs C) where
-    near : {matrix x : ℕ} {f : List ℕ} → PublicValue c b matrix bs x → PublicPart c b matrix f → x ≈⟨ p ⟩ value f s
-    near {matrix} {x} {f} v part = rw (v .is-value s f (at .values) part) (≈-reduced p (value f s))
+      (first : PublicAt c b 0 s A) (second : PublicAt c b 1 s B) (third : PublicAt c b 2 s C) where
+    near : {matrix x : ℕ} {f : List ℕ} → PublicAt c b matrix s x → PublicPart c b matrix f → x ≈⟨ p ⟩ value f s
+    near {f = f} v part = rw (v f part) (≈-reduced p (value f s))
 
     target-near : z ≈⟨ p ⟩ value (targetOf c) s
     target-near = rw (at .target-at) (≈-reduced p (value (targetOf c) s))

@@ -1,16 +1,12 @@
 -- How a function decides a statement, and how a call that goes by it meets the contract of a check.
+-- Document 01, "Query and checks".
 use mathlib.Core.Bool.{Bool, true, false}
-use mathlib.Core.Path.{_≡_, refl, sym, ap}
-use Prim.Native.Nat.{ℕ}
-use native.Mathlib.Omega.{arith}
+use mathlib.Core.Path.{_≡_, refl, sym}
 use Rattle.outcome.specs.declared.Outcome.{Outcome}
 use Rattle.outcome.specs.Verdict.{fine, outcome}
-use Rattle.outcome.proofs.Verdict.{not-both, is-accepted, is-refused}
+use Rattle.outcome.proofs.Verdict.{not-both, is-accepted, is-refused, apart}
 use Rattle.qap.specs.Calls.{Judged}
 use Rattle.verifier.specs.Decides.{Decides}
-
-apart : true ≡ false → ⊥
-apart h = omega (arith, ap {B = ℕ} (elim [ true ↦ 1 | false ↦ 0 ]) h)
 
 pub decides-true : {Equal : Type 0} → Equal → Decides Equal true
 decides-true e = record { when-true = λ h. e; when-false = λ h k. absurd (apart h) }

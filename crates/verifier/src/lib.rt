@@ -7,15 +7,12 @@ ghost use Rattle.outcome.specs.Verdict.{Accepted};
 ghost use Rattle.algebra.specs.Congruence.{_≈⟨_⟩_};
 ghost use Rattle.field.specs.Field.{p};
 ghost use Rattle.circuit.specs.Circuit.{rows};
-ghost use Rattle.circuit.specs.Reader.{circuitVerdict};
-ghost use Rattle.assignment.specs.Assignment.{publicVerdict};
 ghost use Rattle.qap.specs.declared.Blinders.{Blinders};
 ghost use Rattle.qap.specs.declared.FourAnswers.{FourAnswers};
 ghost use Rattle.qap.specs.Answers.{AnswersAgree, CandidateDivides};
 ghost use Rattle.qap.specs.Refusals.{checkAnswersVerdict, checkDivisionVerdict};
 ghost use Rattle.qap.specs.Calls.{CheckAnswersCall, CheckDivisionCall};
 ghost use Rattle.verifier.specs.Decides.{Decides};
-ghost use Rattle.verifier.specs.PublicValue.{PublicValue};
 use outcome::Outcome;
 use qap::Blinders;
 use qap::FourAnswers;
@@ -36,16 +33,6 @@ fn check_answers_verdict(circuit: &[u32], section: &[u32], s: u32, r: FourAnswer
         return answered;
     }
     refusals::point_verdict(circuit, s)
-}
-
-// The public part of a matrix at the point of the basis values b; its row sums are left in y.
-fn public_value(circuit: &[u32], section: &[u32], matrix: usize, b: &[u32], y: &mut [u32]) -> u32
-    requires { ⌜ Accepted (circuitVerdict (now circuit)) × Accepted (publicVerdict (now circuit) (now section)) × (matrix < 3) ⌝ }
-    requires { ⌜ (length (now b) ≡ rows (now circuit)) × (length (now y) ≡ rows (now circuit)) ⌝ }
-    ensures { λ r. ⌜ PublicValue (now (circuit .entry)) (now (section .entry)) matrix (now (b .entry)) r ⌝ }
-{
-    rows::public_sums(circuit, matrix, section, y);
-    basis::dot(y, b)
 }
 
 // u v = t + z times the fourth answer, where a, b, c are added to the first three, giving u, v, t.
@@ -74,11 +61,12 @@ fn agree_cut(
     requires { ⌜ (length (now b) ≡ rows (now circuit)) × (length (now y) ≡ rows (now circuit)) ⌝ }
     ensures { λ x. ⌜ Decides (AnswersAgree (now (circuit .entry)) (now (section .entry)) s r) x ⌝ }
 {
+    let q = circuit::counts::publics_of(circuit);
     let inverses = field::table::inverses();
     let z = basis::basis_values(b, s, &inverses);
-    let first = public_value(circuit, section, 0, b, y);
-    let second = public_value(circuit, section, 1, b, y);
-    let third = public_value(circuit, section, 2, b, y);
+    let first = parts::part_value(circuit, 0, section, 0, q, b, y);
+    let second = parts::part_value(circuit, 1, section, 0, q, b, y);
+    let third = parts::part_value(circuit, 2, section, 0, q, b, y);
     words_agree(r, first, second, third, z)
 }
 

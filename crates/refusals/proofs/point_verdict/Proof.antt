@@ -8,7 +8,6 @@ use borrow.Author.Tests.{le-leb, lt-leb}
 use lib.Dec.{leb}
 use Rattle.outcome.specs.Verdict.{within}
 use Rattle.outcome.proofs.Chain.{chain, passed, failed, last}
-use Rattle.outcome.proofs.Verdict.{within-true}
 use Rattle.circuit.specs.Circuit.{rows}
 use Rattle.qap.specs.Refusals.{pointVerdict}
 use Rattle.refusals.proofs.point_verdict.Statement.{statement}

@@ -1,5 +1,5 @@
 -- The values stay in front while the last word becomes 0; their list, and d times the target added, is the law's.
-use mathlib.Core.Path.{_≡_, sym, _∙_, ap}
+use mathlib.Core.Path.{sym, _∙_, ap}
 use native.Mathlib.Omega.{arith}
 use borrow.Author.Needs.{needs}
 use lib.ListN.{length, set, length-set}

@@ -5,9 +5,8 @@ use native.Mathlib.Omega.{arith}
 use borrow.Author.Needs.{needs}
 use Rattle.algebra.specs.Congruence.{_≈⟨_⟩_, negative}
 use Rattle.algebra.proofs.Congruence.{≈-sym, ≈-trans, ≈-plus, ≈-times, ≈-reduced, ≈-negative, by}
-use Rattle.algebra.proofs.Inverse.{positive}
 use Rattle.field.specs.Field.{p}
-use Rattle.field.proofs.PrimeField.{p-prime}
+use Rattle.field.proofs.PrimeField.{p-positive}
 use Rattle.prover.proofs.point.quotient_value.Statement.{statement}
 use Rattle.prover.proofs.point.quotient_value.Tie as tie
 
@@ -19,7 +18,7 @@ divided u v t z i one =
     -- z r ≈ m, m ≈ w − t, w ≈ u v
     let back : z * r ≈⟨ p ⟩ m = ≈-trans (≈-times z (≈-reduced p (m * i))) (by (≈-times m one) (omega arith)) in
     let sum : t + z * r ≈⟨ p ⟩ w =
-    by (≈-plus (≈-plus back (≈-reduced p (w + negative p t))) (≈-negative (positive p-prime) t)) (omega arith) in
+    by (≈-plus (≈-plus back (≈-reduced p (w + negative p t))) (≈-negative p-positive t)) (omega arith) in
     ≈-sym (≈-trans sum (≈-reduced p (u * v)))
 
 returns : tie.Need-returns
@@ -29,7 +28,7 @@ returns c =
     let z = start .args .z in
     let inverse = c .before .inverse .ensures .of-nonzero (start .pre) in
     let all = c .times2 .ensures in (
-      rw all (mod-lt _ (positive p-prime)),
+      rw all (mod-lt _ p-positive),
       rw (all, c .before .before .minus .ensures, c .before .before .before .times .ensures)
           (divided (w .first) (w .second) (w .third) z (c .before .inverse .result) (inverse .leaves-one)),
     )

@@ -10,7 +10,8 @@ use Rattle.field.specs.Field.{p}
 use Rattle.basis.specs.BasisAt.{BasisAt}
 use Rattle.circuit.specs.Circuit.{rows, columns}
 use Rattle.qap.specs.Polynomials.{targetOf}
-use Rattle.prover.specs.Three.{PartAt, BlindedAt}
+use Rattle.parts.specs.PartAt.{PartAt}
+use Rattle.prover.specs.Three.{BlindedAt}
 use Rattle.prover.proofs.point.three_at.Statement.{statement}
 use Rattle.prover.proofs.point.three_at.Tie as tie
 

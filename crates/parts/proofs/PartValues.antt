@@ -1,4 +1,4 @@
--- Row sums times basis values are the value at s of the list that the part is.
+-- Row sums times basis values are the value at s of the list that the part is (document 01, "Query and checks").
 use mathlib.Core.Path.{_≡_, _∙_, ap}
 use mathlib.Core.List.{List}
 use Prim.Native.Nat.{ℕ, suc, _*_, _%_, _<_}
@@ -15,10 +15,10 @@ use Rattle.basis.proofs.OneAnswer.{dot-value}
 use Rattle.circuit.specs.Circuit.{rows, points}
 use Rattle.circuit.specs.WellFormed.{Formed}
 use Rattle.rows.specs.Rows.{rowSum, rowSums}
-use Rattle.room.proofs.WholeLaws.{length-sums, sum-at}
+use Rattle.rows.proofs.Sums.{length-sums, sum-at}
 use Rattle.qap.specs.Polynomials.{Part}
 use Rattle.qap.proofs.Parts.{part-through}
-use Rattle.prover.specs.Three.{PartAt}
+use Rattle.parts.specs.PartAt.{PartAt}
 
 module _ (c a : List ℕ) (matrix from to : ℕ) where
   -- the list through the sums is the list through their remainders

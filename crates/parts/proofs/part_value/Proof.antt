@@ -1,8 +1,8 @@
 -- The words of y are the row sums.
 use borrow.Author.Needs.{needs}
-use Rattle.prover.proofs.PartValues.{part-at}
-use Rattle.prover.proofs.point.part_value.Statement.{statement}
-use Rattle.prover.proofs.point.part_value.Tie as tie
+use Rattle.parts.proofs.PartValues.{part-at}
+use Rattle.parts.proofs.part_value.Statement.{statement}
+use Rattle.parts.proofs.part_value.Tie as tie
 
 returns : tie.Need-returns
 returns c = part-at _ _ _ _ _ (c .before .before .before .before .before .before .before .before .before .before .pre .0 .0) _ _ (c .before .before .before .before .row-sums .ensures) (c .dot .ensures)
