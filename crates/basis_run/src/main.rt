@@ -2,41 +2,16 @@
 // values at 0 and at 3, each with the target's value on the next line; document 01's column 3 of A at 3 and at 0, from its values
 // at the points; lines b and c from such values. Of 5 points: the weights; the basis values at 0, −1 and the point 4, with
 // the target's value; the column that takes 7 at 3 and the largest word at 5. Of 256 points: the first and the last weight.
-use libc::STDOUT_FILENO;
 ghost use mathlib.Core.Path.{_≡_};
 ghost use Prim.Native.Nat.{_+_, _<_, _≤_};
 ghost use lib.ListN.{length};
 ghost use Rattle.field.specs.Field.{InverseTable};
 
-fn number(n: u32) {
-    io::print_decimal(STDOUT_FILENO, n as u64);
-}
-
-fn space() {
-    io::write_all(STDOUT_FILENO, b" ");
-}
-
-fn line_end() {
-    io::write_all(STDOUT_FILENO, b"\n");
-}
-
-fn line(f: &[u32]) {
-    let mut i = 0;
-    while i < f.len() {
-        if 0 < i {
-            space();
-        }
-        number(f[i]);
-        i += 1;
-    }
-    line_end();
-}
-
 fn weights(out: &mut [u32], inverses: &[u32; 256])
     requires { ⌜ (0 < length (now out)) × (length (now out) ≤ 256) × InverseTable (now inverses) ⌝ }
 {
     basis::weights(out, inverses);
-    line(out);
+    samples::line(out);
 }
 
 fn long_weights(inverses: &[u32; 256])
@@ -44,22 +19,22 @@ fn long_weights(inverses: &[u32; 256])
 {
     let mut out = [0u32; 256];
     basis::weights(&mut out, inverses);
-    line(&[out[0], out[255]]);
+    samples::line(&[out[0], out[255]]);
 }
 
 fn values(out: &mut [u32], s: u32, inverses: &[u32; 256])
     requires { ⌜ (0 < length (now out)) × (length (now out) ≤ 256) × InverseTable (now inverses) ⌝ }
 {
     let target = basis::basis_values(out, s, inverses);
-    line(out);
-    line(&[target]);
+    samples::line(out);
+    samples::line(&[target]);
 }
 
 fn value_through(y: &[u32], room: &mut [u32], s: u32, inverses: &[u32; 256])
     requires { ⌜ (0 < length (now room)) × (length (now room) ≤ 256) × (length (now y) ≡ length (now room)) × InverseTable (now inverses) ⌝ }
 {
     basis::basis_values(room, s, inverses);
-    line(&[basis::dot(y, room)]);
+    samples::line(&[basis::dot(y, room)]);
 }
 
 // The column through y, with room for the target and the weights.
@@ -70,7 +45,7 @@ fn column(out: &mut [u32], y: &[u32], z: &mut [u32], room: &mut [u32], inverses:
     poly::target(z);
     basis::weights(room, inverses);
     basis::column_through(out, y, z, room);
-    line(out);
+    samples::line(out);
 }
 
 fn values_of_two(inverses: &[u32; 256])

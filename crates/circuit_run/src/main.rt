@@ -1,69 +1,28 @@
 // Circuits and assignments at the boundaries of every check, a line for each: number and place. Then public sections as they
 // are handed out, and the row sums and the verdict over the rows of some accepted assignments.
+// Document 01, "Numbers a call gives back".
 use libc::STDOUT_FILENO;
 use outcome::Outcome;
-
-// Document 01's K.
-const K: [u32; 27] = [
-    2,
-    2,
-    4,
-    2,
-    1,
-    3,
-    1,
-    2,
-    4,
-    1,
-    3,
-    1,
-    3,
-    1,
-    2,
-    1,
-    2,
-    2,
-    3,
-    1,
-    2,
-    1,
-    4,
-    1,
-    2,
-    2,
-    1,
-];
-
-// Document 01's K1.
-const K1: [u32; 15] = [1, 1, 2, 1, 1, 2, 1, 2, 1, 1, 2013265920, 1, 2, 1, 0];
 
 const P: u32 = 2013265921;
 
 const LARGEST: u32 = 4294967295;
 
-fn space() {
-    io::write_all(STDOUT_FILENO, b" ");
-}
-
-fn line_end() {
-    io::write_all(STDOUT_FILENO, b"\n");
-}
-
 fn outcome_line(o: Outcome) {
-    io::print_decimal(STDOUT_FILENO, o.number as u64);
-    space();
+    samples::number(o.number);
+    samples::space();
     io::print_decimal(STDOUT_FILENO, o.place as u64);
-    line_end();
+    samples::line_end();
 }
 
 fn words_line(words: &[u32]) {
     let mut i = 0;
     while i < words.len() {
-        io::print_decimal(STDOUT_FILENO, words[i] as u64);
-        space();
+        samples::number(words[i]);
+        samples::space();
         i += 1;
     }
-    line_end();
+    samples::line_end();
 }
 
 fn read(words: &[u32]) {
@@ -92,14 +51,14 @@ fn read_part(words: &[u32; 27], length: usize) {
 
 // K with one word changed.
 fn one(at: usize, word: u32) {
-    let mut w = K;
+    let mut w = samples::K;
     change(&mut w, at, word);
     read_all(&w);
 }
 
 // K with two words changed.
 fn two(at: usize, word: u32, other: usize, second: u32) {
-    let mut w = K;
+    let mut w = samples::K;
     change(&mut w, at, word);
     change(&mut w, other, second);
     read_all(&w);
@@ -107,7 +66,7 @@ fn two(at: usize, word: u32, other: usize, second: u32) {
 
 // The first words of K, one of them changed.
 fn short(length: usize, at: usize, word: u32) {
-    let mut w = K;
+    let mut w = samples::K;
     change(&mut w, at, word);
     read_part(&w, length);
 }
@@ -216,13 +175,13 @@ fn assigned(circuit: &[u32], words: &[u32]) {
 
 // K with an assignment of six words.
 fn six(a: u32, b: u32, c: u32, d: u32, e: u32, f: u32) {
-    let k = K;
+    let k = samples::K;
     let words = [a, b, c, d, e, f];
     assigned(&k, &words);
 }
 
 fn assignments() {
-    let k = K;
+    let k = samples::K;
     six(2, 1, 45, 2, 3, 9);
     six(1, 1, 45, 2, 3, 9);
     six(3, 1, 45, 2, 3, 9);
@@ -241,18 +200,18 @@ fn assignments() {
     assigned(&k, &[2, 1, 45, 2, 3]);
     assigned(&k, &[2, 1, 45, 2, 3, 9, 0]);
     assigned(&k, &[2]);
-    let mut bad = K;
+    let mut bad = samples::K;
     bad[6] = 0;
     assigned(&bad, &[2, 0, 45, 2, 3]);
     assigned(&bad, &[2, 1, 45, 2, 3, 9]);
-    let mut all_public = K;
+    let mut all_public = samples::K;
     all_public[1] = 4;
     assigned(&all_public, &[4, 1, 45, 3, 9, 0]);
     assigned(&all_public, &[4, 1, 45, 3, 9, 1]);
 }
 
 fn publics() {
-    let k = K;
+    let k = samples::K;
     outcome_line(assignment::public_verdict(&k, &[2, 1, 45]));
     outcome_line(assignment::public_verdict(&k, &[2, 1]));
     outcome_line(assignment::public_verdict(&k, &[2, 1, 45, 2]));
@@ -268,7 +227,7 @@ fn rows_lines(circuit: &[u32], values: &[u32], a: &mut [u32], b: &mut [u32], c: 
     if found.number != 0 {
         return;
     }
-    let m = circuit[0] as usize;
+    let m = circuit::counts::rows_of(circuit);
     if a.len() != m {
         return;
     }
@@ -293,7 +252,7 @@ fn parts_lines(circuit: &[u32], values: &[u32], matrix: usize, sums: &mut [u32])
     if 3 <= matrix {
         return;
     }
-    let m = circuit[0] as usize;
+    let m = circuit::counts::rows_of(circuit);
     if sums.len() != m {
         return;
     }
@@ -304,26 +263,21 @@ fn parts_lines(circuit: &[u32], values: &[u32], matrix: usize, sums: &mut [u32])
     words_line(sums);
 }
 
+fn all_lines(circuit: &[u32], values: &[u32], a: &mut [u32], b: &mut [u32], c: &mut [u32]) {
+    rows_lines(circuit, values, a, b, c);
+    parts_lines(circuit, values, 0, a);
+    parts_lines(circuit, values, 1, a);
+    parts_lines(circuit, values, 2, a);
+}
+
 fn two_rows(values: &[u32]) {
-    let k = K;
-    let mut a = [0u32; 2];
-    let mut b = [0u32; 2];
-    let mut c = [0u32; 2];
-    rows_lines(&k, values, &mut a, &mut b, &mut c);
-    parts_lines(&k, values, 0, &mut a);
-    parts_lines(&k, values, 1, &mut a);
-    parts_lines(&k, values, 2, &mut a);
+    let k = samples::K;
+    all_lines(&k, values, &mut [0, 0], &mut [0, 0], &mut [0, 0]);
 }
 
 fn one_row(values: &[u32]) {
-    let k = K1;
-    let mut a = [0u32; 1];
-    let mut b = [0u32; 1];
-    let mut c = [0u32; 1];
-    rows_lines(&k, values, &mut a, &mut b, &mut c);
-    parts_lines(&k, values, 0, &mut a);
-    parts_lines(&k, values, 1, &mut a);
-    parts_lines(&k, values, 2, &mut a);
+    let k = samples::K1;
+    all_lines(&k, values, &mut [0], &mut [0], &mut [0]);
 }
 
 fn all_sums() {

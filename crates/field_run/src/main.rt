@@ -1,36 +1,23 @@
 // Worked examples of the field, in decimals with a space between: minus one; the largest words multiplied and added;
 // a line a, b, a + b, a - b, a b for each pair of words at the borders; a line a, inverse, product for inverses;
-// and the first, second and last entry of the table.
-use libc::STDOUT_FILENO;
+// and the first, second and last entry of the table. Document 01, "The field".
 
 const LARGEST: u32 = 4294967295;
 
-fn number(n: u32) {
-    io::print_decimal(STDOUT_FILENO, n as u64);
-}
-
-fn space() {
-    io::write_all(STDOUT_FILENO, b" ");
-}
-
-fn line_end() {
-    io::write_all(STDOUT_FILENO, b"\n");
-}
-
 fn line(n: u32) {
-    number(n);
-    line_end();
+    samples::number(n);
+    samples::line_end();
 }
 
 fn pair(a: u32, b: u32) {
-    number(a);
-    space();
-    number(b);
-    space();
-    number(field::plus(a, b));
-    space();
-    number(field::minus(a, b));
-    space();
+    samples::number(a);
+    samples::space();
+    samples::number(b);
+    samples::space();
+    samples::number(field::plus(a, b));
+    samples::space();
+    samples::number(field::minus(a, b));
+    samples::space();
     line(field::times(a, b));
 }
 
@@ -44,10 +31,10 @@ fn pairs(a: u32) {
 
 fn inverted(a: u32) {
     let r = field::inverse(a);
-    number(a);
-    space();
-    number(r);
-    space();
+    samples::number(a);
+    samples::space();
+    samples::number(r);
+    samples::space();
     line(field::times(a, r));
 }
 

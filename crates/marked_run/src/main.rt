@@ -5,53 +5,13 @@ use outcome::Outcome;
 use qap::Blinders;
 use qap::FourAnswers;
 
-const K: [u32; 27] = [
-    2,
-    2,
-    4,
-    2,
-    1,
-    3,
-    1,
-    2,
-    4,
-    1,
-    3,
-    1,
-    3,
-    1,
-    2,
-    1,
-    2,
-    2,
-    3,
-    1,
-    2,
-    1,
-    4,
-    1,
-    2,
-    2,
-    1,
-];
-
-const K1: [u32; 15] = [1, 1, 2, 1, 1, 2, 1, 2, 1, 1, 2013265920, 1, 2, 1, 0];
-
 const ASSIGNMENT: [u32; 6] = [2, 1, 45, 2, 3, 9];
 
 const P: u32 = 2013265921;
 
-fn space() {
-    io::write_all(STDOUT_FILENO, b" ");
-}
-
-fn number(n: u32) {
-    io::print_decimal(STDOUT_FILENO, n as u64);
-}
-
 fn number_and_place(o: Outcome) {
-    number(o.number);
-    space();
+    samples::number(o.number);
+    samples::space();
     io::print_decimal(STDOUT_FILENO, o.place as u64);
 }
 
@@ -59,11 +19,11 @@ fn line(o: Outcome, words: &[u32]) {
     number_and_place(o);
     let mut i = 0;
     while i < words.len() {
-        space();
-        number(words[i]);
+        samples::space();
+        samples::number(words[i]);
         i += 1;
     }
-    io::write_all(STDOUT_FILENO, b"\n");
+    samples::line_end();
 }
 
 fn target(m: u32, out: &mut [u32]) {
@@ -78,7 +38,7 @@ fn column(circuit: &[u32], matrix: u32, j: u32) {
 }
 
 fn columns(matrix: u32) {
-    let k = K;
+    let k = samples::K;
     let mut out = [9u32; 8];
     let o = calls::columns(&k, matrix, &mut out);
     line(o, &out);
@@ -100,21 +60,21 @@ fn quotient(circuit: &[u32], values: &[u32], first: u32, second: u32, third: u32
 
 // K with an assignment and blinders.
 fn quotient_of(values: &[u32], first: u32, second: u32, third: u32) {
-    let k = K;
+    let k = samples::K;
     let mut out = [9u32; 3];
     quotient(&k, values, first, second, third, &mut out);
 }
 
 // K1 with a private value.
 fn one_row(private: u32) {
-    let k = K1;
+    let k = samples::K1;
     let mut out = [9u32; 2];
     quotient(&k, &[1, 1, 1, private], 1, 1, 0, &mut out);
 }
 
 // K with its assignment and blinders 1, 2, 3.
 fn answers(s: u32) {
-    let k = K;
+    let k = samples::K;
     let a = ASSIGNMENT;
     let d = Blinders {
         first: 1,
@@ -127,7 +87,7 @@ fn answers(s: u32) {
 }
 
 fn division(candidate: &[u32]) {
-    let k = K;
+    let k = samples::K;
     let a = ASSIGNMENT;
     let d = Blinders {
         first: 1,
@@ -139,7 +99,7 @@ fn division(candidate: &[u32]) {
 
 // J's public section and point beside J's first three answers.
 fn tablet(fourth: u32) {
-    let k = K;
+    let k = samples::K;
     let r = FourAnswers {
         first: 17,
         second: 7,
@@ -150,10 +110,10 @@ fn tablet(fourth: u32) {
 }
 
 fn damaged() {
-    let mut l = K;
+    let mut l = samples::K;
     l[6] = 0;
     column(&l, 0, 3);
-    let mut m = K;
+    let mut m = samples::K;
     m[7] = 1;
     m[8] = 3;
     m[9] = 1;
@@ -161,7 +121,7 @@ fn damaged() {
 }
 
 fn marked() {
-    let k = K;
+    let k = samples::K;
     let mut z = [9u32; 3];
     target(2, &mut z);
     column(&k, 0, 3);

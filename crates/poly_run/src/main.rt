@@ -3,46 +3,21 @@
 // word and its values at 0, 256 and 257; the columns of document 01, lines b and c; line b once more, from Z / (X − 1); the list
 // that is 1 at 256 and 0 at 1..255, its first and last word and its values at 255, 256 and 257; 5 + 7 X + Z (8 + 8 X + 2 X²)
 // divided by Z; and words 0, 1, 256, 511 and 512 of a product of 257 words by 257, with its value at 3.
-use libc::STDOUT_FILENO;
 ghost use Prim.Native.Nat.{_<_, _≤_};
 ghost use lib.ListN.{length};
 ghost use Rattle.algebra.specs.Polynomial.{Words};
 ghost use Rattle.field.specs.Field.{p, InverseTable};
 
-fn number(n: u32) {
-    io::print_decimal(STDOUT_FILENO, n as u64);
-}
-
-fn space() {
-    io::write_all(STDOUT_FILENO, b" ");
-}
-
-fn line_end() {
-    io::write_all(STDOUT_FILENO, b"\n");
-}
-
-fn line(f: &[u32]) {
-    let mut i = 0;
-    while i < f.len() {
-        if 0 < i {
-            space();
-        }
-        number(f[i]);
-        i += 1;
-    }
-    line_end();
-}
-
 fn values() {
     let f = [1u32, 2, 3];
-    line(&[poly::value_at(&f, 2), poly::value_at(&f, 0)]);
+    samples::line(&[poly::value_at(&f, 2), poly::value_at(&f, 0)]);
 }
 
 fn sum_from_word_one(f: &mut [u32])
     requires { ⌜ 3 ≤ length (now f) ⌝ }
 {
     poly::add_scaled(&mut f[1..], field::MINUS_ONE, &[1, 2]);
-    line(f);
+    samples::line(f);
 }
 
 fn sums() {
@@ -53,9 +28,9 @@ fn sums() {
 fn targets() {
     let mut z = [9u32; 3];
     poly::target(&mut z);
-    line(&z);
+    samples::line(&z);
     poly::target_from(&mut z, 5);
-    line(&z);
+    samples::line(&z);
 }
 
 // The first and last word, and the values at a, 256 and 257.
@@ -63,7 +38,7 @@ fn ends(f: &[u32], a: u32)
     requires { ⌜ 0 < length (now f) ⌝ }
 {
     let last = f.len() - 1;
-    line(
+    samples::line(
         &[
             f[0],
             f[last],
@@ -84,7 +59,7 @@ fn column(v: &mut [u32], inverses: &[u32; 256])
     requires { ⌜ (length (now v) ≤ 256) × Words p (now v) × InverseTable (now inverses) ⌝ }
 {
     poly::interpolation::interpolate(v, inverses);
-    line(v);
+    samples::line(v);
 }
 
 fn columns(inverses: &[u32; 256])
@@ -99,7 +74,7 @@ fn columns(inverses: &[u32; 256])
 fn sparse_column() {
     let mut b = [0u32, 0];
     poly::add_divided(&mut b, field::MINUS_ONE, &[2, 2013265918, 1], 1);
-    line(&b);
+    samples::line(&b);
 }
 
 fn long_column(inverses: &[u32; 256])
@@ -116,14 +91,14 @@ fn division() {
     poly::add_product(&mut room, &[2, 2013265918, 1], &[8, 8, 2]);
     poly::add_scaled(&mut room, 1, &[5, 7]);
     poly::divide(&mut room, &[2, 2013265918]);
-    line(&room);
+    samples::line(&room);
 }
 
 fn whole_product() {
     let f = [2u32; 257];
     let g = [2013265920u32; 257];
     let room = poly::product(&f, &g);
-    line(
+    samples::line(
         &[
             room[0],
             room[1],

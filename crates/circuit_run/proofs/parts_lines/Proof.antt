@@ -1,5 +1,4 @@
 -- Accepted words are well formed, and so is the public section that they hand out.
-use native.Mathlib.Omega.{arith}
 use Rattle.outcome.proofs.Verdict.{is-accepted}
 use Rattle.circuit.specs.WellFormed.{WellFormed}
 use Rattle.assignment.specs.Assignment.{publicSection}
@@ -30,4 +29,4 @@ private-sums-requires c κs =
 
 pub parts-lines-spec : {M : Type 1} → statement M
 parts-lines-spec =
-    tie.close (tie.spec (λ c κs. search needs) (λ c. search needs) (λ c. search needs) (λ c. omega (arith, formed (c .before .before))) (λ c. omega (arith, formed (c .before .before))) (λ c. search needs) (λ c κs. search needs) public-sums-requires (λ c κs. search needs) private-sums-requires (λ c κs. search needs) (λ c. search needs) (λ c. search needs))
+    tie.close (tie.spec (λ c κs. search needs) (λ c. search needs) (λ c. search needs) (λ c κs. formed (c .before) .0 .formed .counts) (λ c. search needs) (λ c κs. search needs) public-sums-requires (λ c κs. search needs) private-sums-requires (λ c κs. search needs) (λ c. search needs) (λ c. search needs))

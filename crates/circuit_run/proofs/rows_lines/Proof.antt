@@ -1,5 +1,4 @@
 -- Accepted words are well formed, and the lists are as long as there are rows.
-use native.Mathlib.Omega.{arith}
 use Rattle.outcome.proofs.Verdict.{is-accepted}
 use Rattle.circuit.specs.WellFormed.{WellFormed}
 use Rattle.assignment.specs.WellFormed.{AssignmentFormed}
@@ -19,4 +18,4 @@ rows-verdict-requires c κs =
 
 pub rows-lines-spec : {M : Type 1} → statement M
 rows-lines-spec =
-    tie.close (tie.spec (λ c κs. search needs) (λ c. search needs) (λ c. omega (arith, formed (c .before))) (λ c. omega (arith, formed (c .before))) (λ c. search needs) (λ c. search needs) (λ c. search needs) rows-verdict-requires (λ c κs. search needs) (λ c κs. search needs) (λ c κs. search needs) (λ c κs. search needs) (λ c. search needs) (λ c. search needs) (λ c. search needs) (λ c. search needs))
+    tie.close (tie.spec (λ c κs. search needs) (λ c. search needs) (λ c κs. formed c .0 .formed .counts) (λ c. search needs) (λ c. search needs) (λ c. search needs) rows-verdict-requires (λ c κs. search needs) (λ c κs. search needs) (λ c κs. search needs) (λ c κs. search needs) (λ c. search needs) (λ c. search needs) (λ c. search needs) (λ c. search needs))

@@ -1,6 +1,5 @@
 -- Each word passed is printed.
 use Prim.Native.Nat.{_-_, _≤_}
-use native.Mathlib.Omega.{arith}
 use lib.ListN.{length}
 use borrow.Author.Needs.{needs}
 use Rattle.circuit_run.proofs.words_line.Statement.{statement}
@@ -12,9 +11,6 @@ Inv-loop words i₀ i = i ≤ length words
 abbrev μ-loop : tie.MeasureT-loop
 μ-loop words i₀ i = length words - i
 
-cast-print-decimal : tie.Need-cast-print-decimal Inv-loop μ-loop
-cast-print-decimal c = omega (arith, c .shared-slice-known2 .given (c .before .before .loop .i))
-
 pub words-line-spec : {M : Type 1} → statement M
 words-line-spec =
-    tie.close (tie.spec Inv-loop μ-loop (λ c. search needs) (λ c. search needs) (λ c. search needs) cast-print-decimal (λ c κs. search needs) (λ c κs. search needs) (λ c. search needs) (λ c. search needs) (λ c. search needs) (λ c κs. search needs) (λ c. search needs))
+    tie.close (tie.spec Inv-loop μ-loop (λ c. search needs) (λ c. search needs) (λ c. search needs) (λ c κs. search needs) (λ c κs. search needs) (λ c. search needs) (λ c. search needs) (λ c. search needs) (λ c κs. search needs) (λ c. search needs))

@@ -2,8 +2,8 @@
 use Prim.Native.Nat.{_≤_, _-_}
 use lib.ListN.{length}
 use borrow.Author.Needs.{needs}
-use Rattle.basis_run.proofs.line.Statement.{statement}
-use Rattle.basis_run.proofs.line.Tie as tie
+use Rattle.samples.proofs.line.Statement.{statement}
+use Rattle.samples.proofs.line.Tie as tie
 
 abbrev Inv-loop : tie.InvT-loop
 Inv-loop f i₀ i = i ≤ length f
