@@ -1,10 +1,10 @@
 -- How a function decides a statement, and how a call that goes by it meets the contract of a check.
 -- Document 01, "Query and checks".
 use mathlib.Core.Bool.{Bool, true, false}
-use mathlib.Core.Path.{_≡_, refl, sym}
+use mathlib.Core.Path.{_≡_, refl, sym, _∙_}
 use Rattle.outcome.specs.declared.Outcome.{Outcome}
-use Rattle.outcome.specs.Verdict.{fine, outcome}
-use Rattle.outcome.proofs.Verdict.{not-both, is-accepted, is-refused, apart}
+use Rattle.outcome.specs.Verdict.{require}
+use Rattle.outcome.proofs.Verdict.{not-both, is-accepted, is-refused, apart, passes, fails}
 use Rattle.qap.specs.Calls.{Judged}
 use Rattle.verifier.specs.Decides.{Decides}
 
@@ -25,17 +25,14 @@ module _ {verdict d : Outcome} (Equal : Type 0) (e : d ≡ verdict) where
       let refused = is-refused e h in
       record { refused = λ r. e; accepts = λ a k. absurd (not-both a refused); rejects = λ a k. absurd (not-both a refused) }
 
-  module _ (h : d .number ≡ 0) {x : Bool} (decided : Decides Equal x) where
-    pub judged-true : x ≡ true → Judged verdict Equal fine
-    judged-true t = record {
-      refused = λ r. absurd (not-both (is-accepted e h) r);
-      accepts = λ a k. refl;
-      rejects = λ a unequal. absurd (unequal (decided .when-true t));
-    }
-
-    pub judged-false : x ≡ false → Judged verdict Equal (outcome 13 0)
-    judged-false t = record {
-      refused = λ r. absurd (not-both (is-accepted e h) r);
-      accepts = λ a k. absurd (decided .when-false t k);
-      rejects = λ a unequal. refl;
-    }
+  pub judged-accepted : d .number ≡ 0 → (x : Bool) → Decides Equal x → {o : Outcome} → o ≡ require x 13 0 → Judged verdict Equal o
+  judged-accepted h true decided made = record {
+    refused = λ r. absurd (not-both (is-accepted e h) r);
+    accepts = λ a k. made ∙ passes 13 0 refl;
+    rejects = λ a unequal. absurd (unequal (decided .when-true refl));
+  }
+  judged-accepted h false decided made = record {
+    refused = λ r. absurd (not-both (is-accepted e h) r);
+    accepts = λ a k. absurd (decided .when-false refl k);
+    rejects = λ a unequal. made ∙ fails 13 0 refl;
+  }

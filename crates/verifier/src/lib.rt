@@ -3,7 +3,7 @@
 ghost use mathlib.Core.Path.{_≡_};
 ghost use Prim.Native.Nat.{_+_, _*_, _≤_, _<_};
 ghost use lib.ListN.{length};
-ghost use Rattle.outcome.specs.Verdict.{Accepted};
+ghost use Rattle.outcome.specs.Verdict.{Accepted, require};
 ghost use Rattle.algebra.specs.Congruence.{_≈⟨_⟩_};
 ghost use Rattle.field.specs.Field.{p};
 ghost use Rattle.circuit.specs.Circuit.{rows};
@@ -16,6 +16,22 @@ ghost use Rattle.verifier.specs.Decides.{Decides};
 use outcome::Outcome;
 use qap::Blinders;
 use qap::FourAnswers;
+
+// 0 where a check's equality is true, and 13 where it is false.
+fn judged(equal: bool) -> Outcome
+    ensures { λ o. ⌜ o ≡ require equal 13 0 ⌝ }
+{
+    if equal {
+        return Outcome {
+            number: 0,
+            place: 0,
+        };
+    }
+    Outcome {
+        number: 13,
+        place: 0,
+    }
+}
 
 fn check_answers_verdict(circuit: &[u32], section: &[u32], s: u32, r: FourAnswers) -> Outcome
     ensures { λ o. ⌜ o ≡ checkAnswersVerdict (now (circuit .entry)) (now (section .entry)) s r ⌝ }
@@ -104,16 +120,7 @@ pub fn check_answers(circuit: &[u32], section: &[u32], s: u32, r: FourAnswers) -
     if verdict.number != 0 {
         return verdict;
     }
-    if answers_agree(circuit, section, s, r) {
-        return Outcome {
-            number: 0,
-            place: 0,
-        };
-    }
-    Outcome {
-        number: 13,
-        place: 0,
-    }
+    judged(answers_agree(circuit, section, s, r))
 }
 
 fn check_division_verdict(
@@ -201,14 +208,5 @@ pub fn check_division(circuit: &[u32], values: &[u32], d: Blinders, candidate: &
     if verdict.number != 0 {
         return verdict;
     }
-    if candidate_divides(circuit, values, d, candidate) {
-        return Outcome {
-            number: 0,
-            place: 0,
-        };
-    }
-    Outcome {
-        number: 13,
-        place: 0,
-    }
+    judged(candidate_divides(circuit, values, d, candidate))
 }

@@ -1,7 +1,7 @@
 -- Refused, or decided.
 use borrow.Author.Needs.{needs}
 use Rattle.outcome.proofs.Verdict.{is-accepted}
-use Rattle.verifier.proofs.Deciding.{judged-refused, judged-true, judged-false}
+use Rattle.verifier.proofs.Deciding.{judged-refused, judged-accepted}
 use Rattle.verifier.proofs.check_answers.Statement.{statement}
 use Rattle.verifier.proofs.check_answers.Tie as tie
 
@@ -13,11 +13,7 @@ returns c = judged-refused _ (c .before .before .check-answers-verdict .ensures)
 
 returns-2 : tie.Need-returns-2
 returns-2 c =
-    judged-true _ (c .before .before .before .before .check-answers-verdict .ensures) (c .before .before .if1 .left) (c .before .answers-agree .ensures) (c .if2 .taken)
-
-returns-3 : tie.Need-returns-3
-returns-3 c =
-    judged-false _ (c .before .before .before .before .check-answers-verdict .ensures) (c .before .before .if1 .left) (c .before .answers-agree .ensures) (c .if2 .left)
+    judged-accepted _ (c .before .before .before .before .check-answers-verdict .ensures) (c .before .before .if1 .left) _ (c .before .answers-agree .ensures) (c .judged .ensures)
 
 pub check-answers-spec : {M : Type 1} → statement M
-check-answers-spec = tie.close (tie.spec (λ c κs. search needs) returns asked returns-2 returns-3)
+check-answers-spec = tie.close (tie.spec (λ c κs. search needs) returns asked (λ c κs. search needs) returns-2)
