@@ -2,14 +2,14 @@
 use mathlib.Core.List.{List}
 use mathlib.Core.Logic.{⊎-elim}
 use mathlib.Core.Path.{_≡_, refl, sym, _∙_}
-use Prim.Native.Nat.{ℕ, _+_, _-_, _≤_}
+use Prim.Native.Nat.{ℕ, _+_, _*_, _-_, _/_, _%_, _≤_}
 use native.Mathlib.Omega.{arith}
-use borrow.Author.Tests.{eqb-true}
+use borrow.Author.Tests.{leb-true, eqb-true}
 use lib.Dec.{lit<}
 use lib.ListN.{length, take, drop, length-drop}
 use lib.Seq.{take-all, length-take-le}
 use Rattle.outcome.specs.Verdict.{Accepted, Refused, _andThen_}
-use Rattle.outcome.proofs.Verdict.{accepted-or-refused, accepted-both, accepted-parts, taken}
+use Rattle.outcome.proofs.Verdict.{accepted-or-refused, accepted-both, accepted-parts, require-accepted, taken}
 use Rattle.circuit.specs.Circuit.{columns, ending, leading}
 use Rattle.circuit.specs.Reader.{prefixVerdict, circuitVerdict}
 use Rattle.circuit.proofs.Formed.{prefix-formed}
@@ -18,10 +18,23 @@ use Rattle.circuit.proofs.Sections.{ends-within}
 use Rattle.assignment.specs.Assignment.{wordsVerdict, assignmentVerdict}
 use Rattle.assignment.proofs.Accepted.{assignment-formed}
 use Rattle.qap.specs.Refusals.{blinderWords, pointVerdict, readyVerdict, answersVerdict}
-use Rattle.file.specs.File.{assignmentOf, remainder, blindersOf, pointOf, remainderVerdict, fileVerdict, jobVerdict}
+use Rattle.file.specs.File.{assignmentOf, remainder, blindersOf, pointOf, sizeVerdict, remainderVerdict, fileVerdict, jobVerdict}
 use Rattle.file.specs.Parts.{partsVerdict, restVerdict}
 use Rattle.file.specs.Read.{Parted, Read}
 use Rattle.file.specs.declared.Job.{Job}
+
+-- a file that is not refused for its length is whole words, and not too many
+pub record WholeWords (size : ℕ) : Type 0 where
+  pub whole : size ≡ 4 * (size / 4)
+  pub few : size / 4 ≤ 9486
+
+pub size-words : (size : ℕ) → Accepted (sizeVerdict size) → WholeWords size
+unfolding sizeVerdict
+size-words size h =
+    let first = taken _ _ _ (lit< tt) h in
+    let most : size ≤ 37944 = leb-true _ _ (first .0) in
+    let left : size % 4 ≡ 0 = eqb-true _ _ (require-accepted _ 14 0 (lit< tt) (first .1)) in
+    record { whole = omega arith; few = omega arith }
 
 -- the verdict as the code goes by it
 pub file-parts : (w : List ℕ) → fileVerdict w ≡ prefixVerdict w andThen restVerdict (leading w) (drop (ending w) w)

@@ -131,7 +131,7 @@ fn answers_cut(
     answers_in(circuit, values, d, s, &mut b[..m], &mut y[..m])
 }
 
-fn fill_answers(circuit: &[u32], values: &[u32], d: Blinders, s: u32) -> FourAnswers
+pub fn fill_answers(circuit: &[u32], values: &[u32], d: Blinders, s: u32) -> FourAnswers
     requires { ⌜ Accepted (answersVerdict (now circuit) (now values) d s) ⌝ }
     ensures { λ r. ⌜ IsAnswers (now (circuit .entry)) (now (values .entry)) d s r ⌝ }
 {

@@ -1,0 +1,4 @@
+pub mod Chained
+pub mod Small
+pub mod LongSection
+pub mod OneResult
