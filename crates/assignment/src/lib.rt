@@ -92,7 +92,7 @@ pub fn public_words_verdict(circuit: &[u32], words: &[u32]) -> Outcome
 pub fn assignment_verdict(circuit: &[u32], words: &[u32]) -> Outcome
     ensures { λ r. ⌜ r ≡ circuitThenAssignment (now (circuit .entry)) (now (words .entry)) ⌝ }
 {
-    let found = circuit::reader::circuit_verdict(circuit);
+    let found = reader::circuit_verdict(circuit);
     if found.number != 0 {
         return found;
     }
@@ -102,7 +102,7 @@ pub fn assignment_verdict(circuit: &[u32], words: &[u32]) -> Outcome
 pub fn public_verdict(circuit: &[u32], words: &[u32]) -> Outcome
     ensures { λ r. ⌜ r ≡ circuitThenPublic (now (circuit .entry)) (now (words .entry)) ⌝ }
 {
-    let found = circuit::reader::circuit_verdict(circuit);
+    let found = reader::circuit_verdict(circuit);
     if found.number != 0 {
         return found;
     }

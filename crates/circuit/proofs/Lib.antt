@@ -6,4 +6,3 @@ pub mod Tables
 pub mod Entries
 pub mod Coefficients
 pub mod Prefix
-pub mod ColumnLaws

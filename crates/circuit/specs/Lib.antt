@@ -2,4 +2,3 @@ pub mod Circuit
 pub mod Reader
 pub mod WellFormed
 pub mod Totals
-pub mod Column

@@ -1,4 +1,2 @@
-// Circuits: reading, refusing and meaning (document 01, "Circuit words").
-pub mod column;
+// Circuits: what their words mean (document 01, "Circuit words"), and their counts; crates entry, reader and column read them.
 pub mod counts;
-pub mod reader;

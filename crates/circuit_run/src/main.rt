@@ -26,7 +26,7 @@ fn words_line(words: &[u32]) {
 }
 
 fn read(words: &[u32]) {
-    outcome_line(circuit::reader::circuit_verdict(words));
+    outcome_line(reader::circuit_verdict(words));
 }
 
 fn change(words: &mut [u32; 27], at: usize, word: u32) {
@@ -45,7 +45,7 @@ fn read_part(words: &[u32; 27], length: usize) {
     if length <= all.len() {
         let part = &all[..length];
         read(part);
-        outcome_line(circuit::reader::prefix_verdict(part));
+        outcome_line(reader::prefix_verdict(part));
     }
 }
 

@@ -136,11 +136,11 @@ fn refused(outcome: Outcome) -> Job
 pub fn read(words: &[u32]) -> Job
     ensures { λ r. ⌜ Read (now (words .entry)) r ⌝ }
 {
-    let begun = circuit::reader::prefix_verdict(words);
+    let begun = reader::prefix_verdict(words);
     if begun.number != 0 {
         return refused(begun);
     }
-    let end = circuit::reader::section_start(words, 3);
+    let end = reader::section_start(words, 3);
     let found = rest_verdict(&words[..end], &words[end..]);
     if found.number != 0 {
         return refused(found);

@@ -18,7 +18,7 @@ use Rattle.assignment.specs.Assignment.{publicVerdict}
 use Rattle.qap.specs.declared.FourAnswers.{FourAnswers}
 use Rattle.qap.specs.Refusals.{checkAnswersVerdict}
 use Rattle.qap.specs.Calls.{Judged}
-use Rattle.verifier.proofs.Deciding.{judged-refused}
+use Rattle.refusals.proofs.Deciding.{judged-refused}
 
 module _ (c b : List ℕ) (long : 257 < length b) where
   six : Refused (outcome 6 0)

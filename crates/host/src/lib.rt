@@ -1,15 +1,15 @@
 // The two functions that a host calls on bytes (document 01, "The program and one run whole"). Neither asks anything of its input.
 ghost use Rattle.host.specs.Exports.{AnswersExport, CheckExport};
 
-mod answers;
-mod check;
+mod answering;
+mod checking;
 
 // The four answers to a job, into 16 bytes.
 #[no_mangle]
 pub extern "C" fn rowprover_answers(job: &[u8], out: &mut [u8]) -> u64
     ensures { λ r. ⌜ AnswersExport (now (job .entry)) (now (out .entry)) (now (out .exit)) r ⌝ }
 {
-    let found = answers::answers_bytes(job, out);
+    let found = answering::answers_bytes(job, out);
     found.place as u64 * 256 + found.number as u64
 }
 
@@ -18,6 +18,6 @@ pub extern "C" fn rowprover_answers(job: &[u8], out: &mut [u8]) -> u64
 pub extern "C" fn rowprover_check(circuit: &[u8], section: &[u8], query: &[u8]) -> u64
     ensures { λ r. ⌜ CheckExport (now (circuit .entry)) (now (section .entry)) (now (query .entry)) r ⌝ }
 {
-    let found = check::check_bytes(circuit, section, query);
+    let found = checking::check_bytes(circuit, section, query);
     found.place as u64 * 256 + found.number as u64
 }

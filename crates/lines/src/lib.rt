@@ -59,10 +59,10 @@ fn five_in(
     requires { ⌜ (length (now z) ≡ rows (now circuit) + 1) × (length (now h) ≡ rows (now circuit) + 1) × (11008 ≤ length (now text)) ⌝ }
     ensures { λ end. ⌜ Written (FiveOf (now (circuit .entry)) (now (values .entry)) d s) (now (text .exit)) end ⌝ }
 {
-    calls::target(circuit::counts::rows_of(circuit) as u32, z);
-    prover::quotient(circuit, values, d, h);
+    target::target(circuit::counts::rows_of(circuit) as u32, z);
+    quotient::quotient(circuit, values, d, h);
     let section = assignment::public_section(circuit, values);
-    let check = verifier::check_answers(circuit, section, s, r);
+    let check = answer_check::check_answers(circuit, section, s, r);
     put_five(z, h, r, check.number, text)
 }
 
@@ -116,7 +116,7 @@ fn print_job(circuit: &[u32], values: &[u32], d: Blinders, s: u32, text: &mut [u
     requires { ⌜ 11008 ≤ length (now text) ⌝ }
     ensures { λ end. ⌜ Written (Reports (answersVerdict (now (circuit .entry)) (now (values .entry)) d s) (FiveOf (now (circuit .entry)) (now (values .entry)) d s)) (now (text .exit)) end ⌝ }
 {
-    let found = prover::answers(circuit, values, d, s);
+    let found = answers::answers(circuit, values, d, s);
     if found.outcome.number != 0 {
         return refuse(found.outcome, text);
     }

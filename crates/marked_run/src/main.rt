@@ -27,25 +27,25 @@ fn line(o: Outcome, words: &[u32]) {
 }
 
 fn target(m: u32, out: &mut [u32]) {
-    let o = calls::target(m, out);
+    let o = target::target(m, out);
     line(o, out);
 }
 
 fn column(circuit: &[u32], matrix: u32, j: u32) {
     let mut out = [9u32; 2];
-    let o = calls::column(circuit, matrix, j, &mut out);
+    let o = columns::column(circuit, matrix, j, &mut out);
     line(o, &out);
 }
 
 fn columns(matrix: u32) {
     let k = samples::K;
     let mut out = [9u32; 8];
-    let o = calls::columns(&k, matrix, &mut out);
+    let o = columns::columns(&k, matrix, &mut out);
     line(o, &out);
 }
 
 fn quotient(circuit: &[u32], values: &[u32], first: u32, second: u32, third: u32, out: &mut [u32]) {
-    let o = prover::quotient(
+    let o = quotient::quotient(
         circuit,
         values,
         Blinders {
@@ -81,7 +81,7 @@ fn answers(s: u32) {
         second: 2,
         third: 3,
     };
-    let found = prover::answers(&k, &a, d, s);
+    let found = answers::answers(&k, &a, d, s);
     let r = found.numbers;
     line(found.outcome, &[r.first, r.second, r.third, r.fourth]);
 }
@@ -94,7 +94,7 @@ fn division(candidate: &[u32]) {
         second: 2,
         third: 3,
     };
-    line(verifier::check_division(&k, &a, d, candidate), &[]);
+    line(division_check::check_division(&k, &a, d, candidate), &[]);
 }
 
 // J's public section and point beside J's first three answers.
@@ -106,7 +106,7 @@ fn tablet(fourth: u32) {
         third: 2013265918,
         fourth,
     };
-    line(verifier::check_answers(&k, &[2, 1, 45], 3, r), &[]);
+    line(answer_check::check_answers(&k, &[2, 1, 45], 3, r), &[]);
 }
 
 fn damaged() {
@@ -147,10 +147,10 @@ fn points() {
 
 fn largest() {
     let mut z = [9u32; 257];
-    let o = calls::target(256, &mut z);
+    let o = target::target(256, &mut z);
     line(o, &[z[0], z[255], z[256]]);
     let mut longer = [9u32; 258];
-    let refused = calls::target(257, &mut longer);
+    let refused = target::target(257, &mut longer);
     line(refused, &[longer[0], longer[257]]);
     let mut room = [9u32; 4];
     target(2, &mut room);

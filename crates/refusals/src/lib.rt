@@ -1,7 +1,8 @@
-// The refusals that calls share (document 01, "Numbers a call gives back"): 8, 10, 11 and 12, each by its own definition.
+// The refusals that calls share (document 01, "Numbers a call gives back"): 8, 10, 11, 12 and 13, each by its own definition.
 ghost use mathlib.Core.Path.{_≡_};
 ghost use Prim.Native.Nat.{_≤_};
 ghost use lib.ListN.{length};
+ghost use Rattle.outcome.specs.Verdict.{require};
 ghost use Rattle.circuit.specs.WellFormed.{Formed};
 ghost use Rattle.assignment.specs.Assignment.{wordsVerdict};
 ghost use Rattle.assignment.specs.WellFormed.{AssignmentFormed};
@@ -71,7 +72,7 @@ pub fn blinders_verdict(d: Blinders) -> Outcome
 pub fn ready_verdict(circuit: &[u32], values: &[u32], d: Blinders) -> Outcome
     ensures { λ r. ⌜ r ≡ readyVerdict (now (circuit .entry)) (now (values .entry)) d ⌝ }
 {
-    let read = circuit::reader::circuit_verdict(circuit);
+    let read = reader::circuit_verdict(circuit);
     if read.number != 0 {
         return read;
     }
@@ -115,4 +116,20 @@ pub fn rows_verdict(circuit: &[u32], values: &[u32]) -> Outcome
     let mut b = [0u32; 256];
     let mut c = [0u32; 256];
     rows_verdict_in(circuit, values, &mut a, &mut b, &mut c)
+}
+
+// 13: a check's equality is false.
+pub fn judged(equal: bool) -> Outcome
+    ensures { λ o. ⌜ o ≡ require equal 13 0 ⌝ }
+{
+    if equal {
+        return Outcome {
+            number: 0,
+            place: 0,
+        };
+    }
+    Outcome {
+        number: 13,
+        place: 0,
+    }
 }

@@ -82,7 +82,7 @@ pub fn row_sums(
     requires { ⌜ Formed (now circuit) × (matrix < 3) × Span (now circuit) (now values) from to × (length (now out) ≡ rows (now circuit)) ⌝ }
     ensures { λ _. ⌜ now (out .exit) ≡ rowSums (now (circuit .entry)) (now (values .entry)) matrix from to ⌝ }
 {
-    let start = circuit::reader::section_start(circuit, matrix);
+    let start = reader::section_start(circuit, matrix);
     slices::clear(out);
     add_entries(circuit, start, values, from, to, out);
 }

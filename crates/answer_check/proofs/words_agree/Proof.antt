@@ -1,0 +1,24 @@
+-- Both sides are reduced words.
+use borrow.Author.Needs.{needs}
+use Rattle.refusals.proofs.Deciding.{decides-true, decides-false}
+use Rattle.answer_check.proofs.AnswerChecks.{same-words, words-same}
+use Rattle.answer_check.proofs.words_agree.Statement.{statement}
+use Rattle.answer_check.proofs.words_agree.Tie as tie
+
+returns : tie.Need-returns
+returns c =
+    let start = c .before .before .before .before .before .before in
+    let args = start .args in
+    decides-true (same-words (args .r) (args .a) (args .b) (args .c) (args .z) (c .before .before .before .before .before .plus .ensures) (c .before .before .before .before .plus2 .ensures) (c .before .before .before .plus3 .ensures)
+    (c .before .before .times .ensures) (c .before .add-scaled .ensures) (c .if1 .taken))
+
+returns-2 : tie.Need-returns-2
+returns-2 c =
+    let start = c .before .before .before .before .before .before in
+    let args = start .args in
+    decides-false (λ e. c .if1 .left (words-same (args .r) (args .a) (args .b) (args .c) (args .z) (c .before .before .before .before .before .plus .ensures) (c .before .before .before .before .plus2 .ensures) (c .before .before .before .plus3 .ensures)
+    (c .before .before .times .ensures) (c .before .add-scaled .ensures) e))
+
+pub words-agree-spec : {M : Type 1} → statement M
+words-agree-spec = tie.close
+    (tie.spec (λ c κs. search needs) (λ c κs. search needs) (λ c κs. search needs) (λ c κs. search needs) (λ c κs. search needs) returns returns-2)

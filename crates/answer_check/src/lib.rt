@@ -1,0 +1,105 @@
+// The tablet's answer check (document 01, "Query and checks"). It asks nothing of its input; 13 is an equality that is false.
+ghost use mathlib.Core.Path.{_≡_};
+ghost use Prim.Native.Nat.{_+_, _*_, _≤_};
+ghost use lib.ListN.{length};
+ghost use Rattle.outcome.specs.Verdict.{Accepted};
+ghost use Rattle.algebra.specs.Congruence.{_≈⟨_⟩_};
+ghost use Rattle.field.specs.Field.{p};
+ghost use Rattle.circuit.specs.Circuit.{rows};
+ghost use Rattle.qap.specs.declared.FourAnswers.{FourAnswers};
+ghost use Rattle.qap.specs.Answers.{AnswersAgree};
+ghost use Rattle.qap.specs.Refusals.{checkAnswersVerdict};
+ghost use Rattle.qap.specs.Calls.{CheckAnswersCall};
+ghost use Rattle.refusals.specs.Decides.{Decides};
+use outcome::Outcome;
+use qap::FourAnswers;
+
+fn check_answers_verdict(circuit: &[u32], section: &[u32], s: u32, r: FourAnswers) -> Outcome
+    ensures { λ o. ⌜ o ≡ checkAnswersVerdict (now (circuit .entry)) (now (section .entry)) s r ⌝ }
+{
+    let read = reader::circuit_verdict(circuit);
+    if read.number != 0 {
+        return read;
+    }
+    let given = assignment::public_words_verdict(circuit, section);
+    if given.number != 0 {
+        return given;
+    }
+    let answered = refusals::answers_verdict(r);
+    if answered.number != 0 {
+        return answered;
+    }
+    refusals::point_verdict(circuit, s)
+}
+
+// u v = t + z times the fourth answer, where a, b, c are added to the first three, giving u, v, t.
+fn words_agree(r: FourAnswers, a: u32, b: u32, c: u32, z: u32) -> bool
+    ensures { λ x. ⌜ Decides ((r .first + a) * (r .second + b) ≈⟨ p ⟩ (r .third + c) + z * r .fourth) x ⌝ }
+{
+    let u = field::plus(r.first, a);
+    let v = field::plus(r.second, b);
+    let t = field::plus(r.third, c);
+    if field::times(u, v) == field::add_scaled(t, z, r.fourth) {
+        return true;
+    }
+    false
+}
+
+// The equality at s, with b and y of as many words as there are rows.
+fn agree_cut(
+    circuit: &[u32],
+    section: &[u32],
+    s: u32,
+    r: FourAnswers,
+    b: &mut [u32],
+    y: &mut [u32],
+) -> bool
+    requires { ⌜ Accepted (checkAnswersVerdict (now circuit) (now section) s r) ⌝ }
+    requires { ⌜ (length (now b) ≡ rows (now circuit)) × (length (now y) ≡ rows (now circuit)) ⌝ }
+    ensures { λ x. ⌜ Decides (AnswersAgree (now (circuit .entry)) (now (section .entry)) s r) x ⌝ }
+{
+    let q = circuit::counts::publics_of(circuit);
+    let inverses = field::table::inverses();
+    let z = basis::basis_values(b, s, &inverses);
+    let first = parts::part_value(circuit, 0, section, 0, q, b, y);
+    let second = parts::part_value(circuit, 1, section, 0, q, b, y);
+    let third = parts::part_value(circuit, 2, section, 0, q, b, y);
+    words_agree(r, first, second, third, z)
+}
+
+fn agree_in(
+    circuit: &[u32],
+    section: &[u32],
+    s: u32,
+    r: FourAnswers,
+    b: &mut [u32],
+    y: &mut [u32],
+) -> bool
+    requires { ⌜ Accepted (checkAnswersVerdict (now circuit) (now section) s r) ⌝ }
+    requires { ⌜ (256 ≤ length (now b)) × (256 ≤ length (now y)) ⌝ }
+    ensures { λ x. ⌜ Decides (AnswersAgree (now (circuit .entry)) (now (section .entry)) s r) x ⌝ }
+{
+    let m = circuit::counts::rows_of(circuit);
+    agree_cut(circuit, section, s, r, &mut b[..m], &mut y[..m])
+}
+
+// The answer check's equality.
+fn answers_agree(circuit: &[u32], section: &[u32], s: u32, r: FourAnswers) -> bool
+    requires { ⌜ Accepted (checkAnswersVerdict (now circuit) (now section) s r) ⌝ }
+    ensures { λ x. ⌜ Decides (AnswersAgree (now (circuit .entry)) (now (section .entry)) s r) x ⌝ }
+{
+    let mut b = [0u32; 256];
+    let mut y = [0u32; 256];
+    agree_in(circuit, section, s, r, &mut b, &mut y)
+}
+
+// Four answers to the point s, beside a public section.
+pub fn check_answers(circuit: &[u32], section: &[u32], s: u32, r: FourAnswers) -> Outcome
+    ensures { λ o. ⌜ CheckAnswersCall (now (circuit .entry)) (now (section .entry)) s r o ⌝ }
+{
+    let verdict = check_answers_verdict(circuit, section, s, r);
+    if verdict.number != 0 {
+        return verdict;
+    }
+    refusals::judged(answers_agree(circuit, section, s, r))
+}

@@ -1,0 +1,57 @@
+// Three parts at a point with their blinders, and the quotient's value there (document 01, "Query and checks").
+ghost use mathlib.Core.Path.{_≡_};
+ghost use Prim.Native.Nat.{ℕ, _+_, _*_, _<_};
+ghost use lib.ListN.{length};
+ghost use Rattle.algebra.specs.Congruence.{_≈⟨_⟩_};
+ghost use Rattle.field.specs.Field.{p};
+ghost use Rattle.basis.specs.BasisAt.{BasisAt};
+ghost use Rattle.circuit.specs.Circuit.{rows, columns};
+ghost use Rattle.circuit.specs.WellFormed.{Formed};
+ghost use Rattle.rows.specs.Sums.{Span};
+ghost use Rattle.qap.specs.declared.Blinders.{Blinders};
+ghost use Rattle.answers.specs.Three.{ThreeAt};
+use qap::Blinders;
+
+pub struct Three {
+    pub first: u32,
+    pub second: u32,
+    pub third: u32,
+}
+
+// The parts of A, B, C over the columns after `from`, with d1 z, d2 z, d3 z added; z is the target's value.
+pub fn three_at(
+    circuit: &[u32],
+    values: &[u32],
+    from: usize,
+    d: Blinders,
+    z: u32,
+    b: &[u32],
+    y: &mut [u32],
+) -> Three
+    requires { ⌜ Formed (now circuit) × Span (now circuit) (now values) from (columns (now circuit)) ⌝ }
+    requires { ⌜ (length (now y) ≡ rows (now circuit)) × (length (now b) ≡ rows (now circuit)) ⌝ }
+    ensures { λ r. ⌜ ((s : ℕ) → BasisAt p (rows (now (circuit .entry))) s (now (b .entry)) z → ThreeAt (now (circuit .entry)) (now (values .entry)) from d s r) ⌝ }
+{
+    let n = circuit::counts::columns_of(circuit);
+    let a = parts::part_value(circuit, 0, values, from, n, b, y);
+    let first = field::add_scaled(a, d.first, z);
+    let c = parts::part_value(circuit, 1, values, from, n, b, y);
+    let second = field::add_scaled(c, d.second, z);
+    let e = parts::part_value(circuit, 2, values, from, n, b, y);
+    Three {
+        first,
+        second,
+        third: field::add_scaled(e, d.third, z),
+    }
+}
+
+// (u v − t) / z
+pub fn quotient_value(w: Three, z: u32) -> u32
+    requires { ⌜ (z ≈⟨ p ⟩ 0 → ⊥) ⌝ }
+    ensures { λ r. ⌜ (r < p) × (w .first * w .second ≈⟨ p ⟩ w .third + z * r) ⌝ }
+{
+    field::times(
+        field::minus(field::times(w.first, w.second), w.third),
+        field::inverse(z),
+    )
+}

@@ -1,0 +1,106 @@
+// One entry of a section by 3, 4, 5 (document 01, "Numbers a call gives back").
+ghost use mathlib.Core.Path.{_≡_};
+ghost use Prim.Native.Nat.{_+_, _≤_};
+ghost use lib.ListN.{length};
+ghost use Rattle.circuit.specs.Circuit.{entryAt, section};
+ghost use Rattle.circuit.specs.Reader.{rangesVerdict, entryVerdict};
+use outcome::Outcome;
+
+fn ranges_verdict(m: u32, n: u32, row: u32, column: u32, value: u32, at: usize) -> Outcome
+    ensures { λ r. ⌜ r ≡ rangesVerdict m n row column value at ⌝ }
+{
+    if row < 1 {
+        return Outcome {
+            number: 3,
+            place: at,
+        };
+    }
+    if m < row {
+        return Outcome {
+            number: 3,
+            place: at,
+        };
+    }
+    if column < 1 {
+        return Outcome {
+            number: 3,
+            place: at,
+        };
+    }
+    if n < column {
+        return Outcome {
+            number: 3,
+            place: at,
+        };
+    }
+    if value < 1 {
+        return Outcome {
+            number: 4,
+            place: at,
+        };
+    }
+    if field::MINUS_ONE < value {
+        return Outcome {
+            number: 4,
+            place: at,
+        };
+    }
+    Outcome {
+        number: 0,
+        place: 0,
+    }
+}
+
+fn above(row: u32, column: u32, row_before: u32, column_before: u32) -> bool
+    ensures { λ r. ⌜ r ≡ Rattle.circuit.specs.Reader.above row column «row_before» «column_before» ⌝ }
+{
+    if row_before < row {
+        return true;
+    }
+    if row < row_before {
+        return false;
+    }
+    column_before < column
+}
+
+// Entry e of the section whose count stands at `start` is above the one before it.
+fn ascends(words: &[u32], start: usize, e: usize) -> bool
+    requires { ⌜ entryAt start e + 3 ≤ length (now words) ⌝ }
+    ensures { λ r. ⌜ r ≡ Rattle.circuit.specs.Reader.ascends (now (words .entry)) start e ⌝ }
+{
+    if e == 0 {
+        return true;
+    }
+    let at = start + 1 + 3 * e;
+    let before = at - 3;
+    above(words[at], words[at + 1], words[before], words[before + 1])
+}
+
+// The same entry by 3, 4, 5.
+pub fn entry_verdict(words: &[u32], start: usize, e: usize) -> Outcome
+    requires { ⌜ (3 ≤ length (now words)) × (entryAt start e + 3 ≤ length (now words)) ⌝ }
+    ensures { λ r. ⌜ r ≡ entryVerdict (now (words .entry)) start e ⌝ }
+{
+    let at = start + 1 + 3 * e;
+    let ranges = ranges_verdict(
+        words[0],
+        words[2],
+        words[at],
+        words[at + 1],
+        words[at + 2],
+        at,
+    );
+    if ranges.number != 0 {
+        return ranges;
+    }
+    if ascends(words, start, e) {
+        return Outcome {
+            number: 0,
+            place: 0,
+        };
+    }
+    Outcome {
+        number: 5,
+        place: at,
+    }
+}

@@ -1,0 +1,66 @@
+// The quotient that the box gives (document 01, "Polynomials"). The call asks nothing of its input; refused, it changes no word lent to it.
+ghost use mathlib.Core.Path.{_≡_};
+ghost use Prim.Native.Nat.{_+_, _≤_};
+ghost use lib.ListN.{length};
+ghost use Rattle.outcome.specs.Verdict.{Accepted};
+ghost use Rattle.circuit.specs.Circuit.{rows};
+ghost use Rattle.qap.specs.declared.Blinders.{Blinders};
+ghost use Rattle.qap.specs.Polynomials.{IsQuotient};
+ghost use Rattle.qap.specs.Refusals.{quotientVerdict};
+ghost use Rattle.qap.specs.Calls.{QuotientCall};
+use outcome::Outcome;
+use qap::Blinders;
+
+fn quotient_verdict(circuit: &[u32], values: &[u32], d: Blinders, size: usize) -> Outcome
+    ensures { λ r. ⌜ r ≡ quotientVerdict (now (circuit .entry)) (now (values .entry)) d size ⌝ }
+{
+    let ready = refusals::ready_verdict(circuit, values, d);
+    if ready.number != 0 {
+        return ready;
+    }
+    let sized = refusals::length_verdict(size, circuit::counts::rows_of(circuit) + 1);
+    if sized.number != 0 {
+        return sized;
+    }
+    refusals::rows_verdict(circuit, values)
+}
+
+// The target in lent words, then the room, then its quotient.
+fn quotient_in(circuit: &[u32], values: &[u32], d: Blinders, z: &mut [u32], out: &mut [u32])
+    requires { ⌜ Accepted (quotientVerdict (now circuit) (now values) d (length (now out))) × (length (now z) ≡ length (now out)) ⌝ }
+    ensures { λ _. ⌜ IsQuotient (now (circuit .entry)) (now (values .entry)) d (now (out .exit)) ⌝ }
+{
+    let m = circuit::counts::rows_of(circuit);
+    let inverses = field::table::inverses();
+    poly::target(z);
+    let work = room::sides(circuit, values, d, m, z, &inverses);
+    room::take_quotient(work, m, z, out);
+}
+
+fn quotient_cut(circuit: &[u32], values: &[u32], d: Blinders, z: &mut [u32], out: &mut [u32])
+    requires { ⌜ Accepted (quotientVerdict (now circuit) (now values) d (length (now out))) × (257 ≤ length (now z)) ⌝ }
+    ensures { λ _. ⌜ IsQuotient (now (circuit .entry)) (now (values .entry)) d (now (out .exit)) ⌝ }
+{
+    let end = out.len();
+    quotient_in(circuit, values, d, &mut z[..end], out);
+}
+
+fn fill_quotient(circuit: &[u32], values: &[u32], d: Blinders, out: &mut [u32])
+    requires { ⌜ Accepted (quotientVerdict (now circuit) (now values) d (length (now out))) ⌝ }
+    ensures { λ _. ⌜ IsQuotient (now (circuit .entry)) (now (values .entry)) d (now (out .exit)) ⌝ }
+{
+    let mut z = [0u32; 257];
+    quotient_cut(circuit, values, d, &mut z, out);
+}
+
+// The quotient H' of the blinded polynomials, into rows + 1 words.
+pub fn quotient(circuit: &[u32], values: &[u32], d: Blinders, out: &mut [u32]) -> Outcome
+    ensures { λ r. ⌜ QuotientCall (now (circuit .entry)) (now (values .entry)) d (now (out .entry)) (now (out .exit)) r ⌝ }
+{
+    let verdict = quotient_verdict(circuit, values, d, out.len());
+    if verdict.number != 0 {
+        return verdict;
+    }
+    fill_quotient(circuit, values, d, out);
+    verdict
+}

@@ -1,0 +1,46 @@
+// The target call (document 01, "Polynomials"): m alone. It asks nothing of its input; refused, it changes no word lent to it.
+ghost use mathlib.Core.Path.{_≡_};
+ghost use lib.ListN.{length};
+ghost use Rattle.outcome.specs.Verdict.{Accepted};
+ghost use Rattle.algebra.specs.Points.{consecutive, target};
+ghost use Rattle.field.specs.Field.{p};
+ghost use Rattle.qap.specs.Refusals.{targetVerdict};
+ghost use Rattle.qap.specs.Calls.{TargetCall};
+use outcome::Outcome;
+
+fn target_verdict(m: u32, size: usize) -> Outcome
+    ensures { λ r. ⌜ r ≡ targetVerdict m size ⌝ }
+{
+    if m < 1 {
+        return Outcome {
+            number: 2,
+            place: 0,
+        };
+    }
+    if 256 < m {
+        return Outcome {
+            number: 2,
+            place: 0,
+        };
+    }
+    refusals::length_verdict(size, m as usize + 1)
+}
+
+fn fill_target(m: u32, out: &mut [u32])
+    requires { ⌜ Accepted (targetVerdict m (length (now out))) ⌝ }
+    ensures { λ _. ⌜ now (out .exit) ≡ target p (consecutive 1 m) ⌝ }
+{
+    poly::target(out);
+}
+
+// The target of m rows, into m + 1 words.
+pub fn target(m: u32, out: &mut [u32]) -> Outcome
+    ensures { λ r. ⌜ TargetCall m (now (out .entry)) (now (out .exit)) r ⌝ }
+{
+    let verdict = target_verdict(m, out.len());
+    if verdict.number != 0 {
+        return verdict;
+    }
+    fill_target(m, out);
+    verdict
+}

@@ -1,3 +1,0 @@
-pub mod Deciding
-pub mod AnswerChecks
-pub mod DivisionChecks
