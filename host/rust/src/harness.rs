@@ -5,21 +5,21 @@ use crate::exported;
 use crate::jobs::cases::Case;
 use crate::linear;
 
-/// Something with the two exported functions of document 01.
+/// Something with the two exported functions of document 01. `Err` says why there is no result that counts.
 pub trait Exports {
-    fn answers(&self, job: &[u8], out: &mut [u8]) -> u64;
-    fn check(&self, circuit: &[u8], public: &[u8], query: &[u8]) -> u64;
+    fn answers(&mut self, job: &[u8], out: &mut [u8]) -> Result<u64, String>;
+    fn check(&mut self, circuit: &[u8], public: &[u8], query: &[u8]) -> Result<u64, String>;
 }
 
 /// The plain second program.
 pub struct Second;
 
 impl Exports for Second {
-    fn answers(&self, job: &[u8], out: &mut [u8]) -> u64 {
-        exported::answers(job, out)
+    fn answers(&mut self, job: &[u8], out: &mut [u8]) -> Result<u64, String> {
+        Ok(exported::answers(job, out))
     }
-    fn check(&self, circuit: &[u8], public: &[u8], query: &[u8]) -> u64 {
-        exported::check(circuit, public, query)
+    fn check(&mut self, circuit: &[u8], public: &[u8], query: &[u8]) -> Result<u64, String> {
+        Ok(exported::check(circuit, public, query))
     }
 }
 
@@ -27,11 +27,11 @@ impl Exports for Second {
 pub struct Linear;
 
 impl Exports for Linear {
-    fn answers(&self, job: &[u8], out: &mut [u8]) -> u64 {
-        linear::answers(job, out)
+    fn answers(&mut self, job: &[u8], out: &mut [u8]) -> Result<u64, String> {
+        Ok(linear::answers(job, out))
     }
-    fn check(&self, circuit: &[u8], public: &[u8], query: &[u8]) -> u64 {
-        linear::check(circuit, public, query)
+    fn check(&mut self, circuit: &[u8], public: &[u8], query: &[u8]) -> Result<u64, String> {
+        Ok(linear::check(circuit, public, query))
     }
 }
 
@@ -71,19 +71,19 @@ impl Lent {
 }
 
 /// Runs one case on the subject; `Err` says what differs from the second program.
-pub fn compare(subject: &dyn Exports, case: &Case) -> Result<(), String> {
+pub fn compare(subject: &mut dyn Exports, case: &Case) -> Result<(), String> {
     match case {
         Case::Answers { job, out_len } => compare_answers(subject, job, *out_len),
         Case::Check { circuit, public, query } => compare_check(subject, [circuit, public, query]),
     }
 }
 
-fn compare_answers(subject: &dyn Exports, job: &[u8], out_len: usize) -> Result<(), String> {
+fn compare_answers(subject: &mut dyn Exports, job: &[u8], out_len: usize) -> Result<(), String> {
     let before: Vec<u8> = (0..out_len).map(|at| 0x51 + at as u8).collect();
     let mut expected_out = before.clone();
     let expected = exported::answers(job, &mut expected_out);
     let (lent_job, mut lent_out) = (Lent::new(job), Lent::new(&before));
-    let result = subject.answers(lent_job.content(), lent_out.content_mut());
+    let result = subject.answers(lent_job.content(), lent_out.content_mut())?;
     same_integer(result, expected)?;
     if !lent_out.is_exactly(&expected_out) {
         return Err(format!("output {:?}, expected {expected_out:?}, or bytes outside", lent_out.content()));
@@ -91,9 +91,9 @@ fn compare_answers(subject: &dyn Exports, job: &[u8], out_len: usize) -> Result<
     untouched(&lent_job, job)
 }
 
-fn compare_check(subject: &dyn Exports, slices: [&[u8]; 3]) -> Result<(), String> {
+fn compare_check(subject: &mut dyn Exports, slices: [&[u8]; 3]) -> Result<(), String> {
     let lent = slices.map(Lent::new);
-    let result = subject.check(lent[0].content(), lent[1].content(), lent[2].content());
+    let result = subject.check(lent[0].content(), lent[1].content(), lent[2].content())?;
     same_integer(result, exported::check(slices[0], slices[1], slices[2]))?;
     lent.iter().zip(slices).try_for_each(|(lent, slice)| untouched(lent, slice))
 }

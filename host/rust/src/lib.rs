@@ -3,7 +3,8 @@
 //!
 //! Bottom up: `field`, `poly`, `qap` are the mathematics; `refusal`, `circuit`, `assignment` read words;
 //! `calls`, `job`, `exported` are document 01's calls, program and exported functions. `linear` is the
-//! best-known method for the two exported functions, for benchmarks. `jobs` makes inputs, `harness` compares.
+//! best-known method for the two exported functions, for benchmarks. `jobs` makes inputs, `harness` compares,
+//! `served` calls the product's two functions in a process of their own.
 
 pub mod assignment;
 pub mod calls;
@@ -17,4 +18,5 @@ pub mod linear;
 pub mod poly;
 pub mod qap;
 pub mod refusal;
+pub mod served;
 pub mod words;

@@ -2,7 +2,6 @@
 
 use second::circuit::Circuit;
 use second::exported;
-use second::harness::{Exports, Second};
 use second::jobs::cases::{case, Case};
 use second::jobs::chance::Chance;
 use second::jobs::{calls::call, job, systematic, valid};
@@ -27,8 +26,8 @@ fn exactly_these_often(counts: [usize; 15], numbers: &[usize]) {
 
 fn number_of(case: &Case) -> u64 {
     let integer = match case {
-        Case::Answers { job, out_len } => Second.answers(job, &mut vec![0; *out_len]),
-        Case::Check { circuit, public, query } => Second.check(circuit, public, query),
+        Case::Answers { job, out_len } => exported::answers(job, &mut vec![0; *out_len]),
+        Case::Check { circuit, public, query } => exported::check(circuit, public, query),
     };
     integer % 256
 }

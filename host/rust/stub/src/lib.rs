@@ -35,8 +35,14 @@ pub unsafe extern "C" fn rowprover_answers(
     if fault("writes-input") && job_len > 0 {
         (job as *mut u8).write_volatile(0);
     }
+    if fault("writes-before") {
+        (job.sub(1) as *mut u8).write_volatile(0);
+    }
     let (job, out) = (from_raw_parts(job, job_len), from_raw_parts_mut(out, out_len));
     let result = exported::answers(job, out);
+    if fault("dies") && result % 256 == 10 {
+        std::process::abort();
+    }
     if fault("touches") && result != 0 && out_len > 0 {
         out[0] ^= 1;
     }
@@ -74,6 +80,11 @@ pub unsafe extern "C" fn rowprover_check(
     let circuit = from_raw_parts(circuit, circuit_len);
     let public = from_raw_parts(public_section, public_len);
     let result = exported::check(circuit, public, from_raw_parts(query, query_len));
+    if fault("writes-query") && query_len > 0 {
+        // The last byte, and only when the right result is there.
+        let last = query.add(query_len - 1) as *mut u8;
+        last.write_volatile(!last.read_volatile());
+    }
     if fault("accepts") && result == 13 {
         return 0;
     }
