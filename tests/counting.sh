@@ -17,6 +17,14 @@ bad() {
     tail -n 40 "$log"
 }
 
+# needs COMMAND PACKAGE..: installs the packages where there is no such command.
+needs() {
+    if ! command -v "$1" >/dev/null; then
+        shift
+        { apt-get update && apt-get install -y "$@"; } >"$log" 2>&1 </dev/null || bad "apt-get install $*"
+    fi
+}
+
 # A command that has to succeed.
 plain() {
     if "$@" >"$log" 2>&1 </dev/null; then good; else bad "$*"; fi
