@@ -1,9 +1,13 @@
 //! The harness: the linear method passes it, and every wrong subject is caught.
 
+use second::circuit::Circuit;
 use second::exported;
+use second::field::is_field_word;
 use second::harness::{compare, Exports, Linear};
 use second::jobs::cases::case;
 use second::jobs::systematic;
+use second::refusal::integer;
+use second::words::from_bytes;
 
 fn is_caught(subject: &mut dyn Exports) -> bool {
     let generated = (0..1500).map(|index| case(21, index));
@@ -69,6 +73,96 @@ fn eight_after_ten_is_caught() {
         _ => integer,
     };
     assert!(is_caught(&mut Wrong { answers, ..RIGHT }));
+}
+
+/// 12 at the lowest word above the field.
+fn twelve(words: &[u32]) -> Option<u64> {
+    words.iter().position(|&word| !is_field_word(word)).map(|at| 12 + 256 * at as u64)
+}
+
+/// The same among the answers of a query.
+fn twelve_in(query: &[u8]) -> Option<u64> {
+    from_bytes(query).get(1..).and_then(twelve)
+}
+
+/// The blinders and the point of a job that ends as it should.
+fn tail(job: &[u8]) -> Option<([u32; 3], u32)> {
+    let words = from_bytes(job);
+    match words[words.len().saturating_sub(6)..] {
+        [3, d1, d2, d3, 1, point] if job.len() % 4 == 0 => Some(([d1, d2, d3], point)),
+        _ => None,
+    }
+}
+
+/// Each exchanges two refusals, so it is caught only on a case that has both faults.
+#[test]
+fn answers_in_another_order_are_caught() {
+    type Answers = fn(u64, &[u8], &mut [u8]) -> u64;
+    let wrong: [(&str, Answers); 6] = [
+        ("12 before 4", |integer, job, _| match tail(job) {
+            Some((blinders, _)) if integer % 256 == 4 => twelve(&blinders).unwrap_or(integer),
+            _ => integer,
+        }),
+        ("12 before 7", |integer, job, _| match tail(job) {
+            Some((blinders, _)) if integer % 256 == 7 => twelve(&blinders).unwrap_or(integer),
+            _ => integer,
+        }),
+        ("11 before 7", |integer, job, _| match tail(job) {
+            Some((_, point)) if integer % 256 == 7 && !is_field_word(point) => 11,
+            _ => integer,
+        }),
+        ("11 before 12", |integer, job, _| match tail(job) {
+            Some((_, point)) if integer % 256 == 12 && !is_field_word(point) => 11,
+            _ => integer,
+        }),
+        (
+            "8 before 11",
+            |integer, _, out| if integer == 11 && out.len() != 16 { 8 + 256 * 16 } else { integer },
+        ),
+        ("10 before 11", |integer, job, out| {
+            let off_the_rows = [&job[..job.len().saturating_sub(4)], &[0; 4]].concat();
+            match exported::answers(&off_the_rows, &mut out.to_vec()) {
+                row if row % 256 == 10 && integer == 11 => row,
+                _ => integer,
+            }
+        }),
+    ];
+    for (name, answers) in wrong {
+        assert!(is_caught(&mut Wrong { answers, ..RIGHT }), "{name}");
+    }
+}
+
+#[test]
+fn checks_in_another_order_are_caught() {
+    type Check = fn(u64, [&[u8]; 3]) -> u64;
+    let wrong: [(&str, Check); 5] = [
+        ("circuit before 14", |result, [circuit, _, _]| match Circuit::read(&from_bytes(circuit)) {
+            Err(refusal) if result == 14 && circuit.len() % 4 == 0 => integer::<()>(&Err(refusal)),
+            _ => result,
+        }),
+        ("12 before 4", |integer, [_, _, query]| match twelve_in(query) {
+            Some(word) if integer % 256 == 4 => word,
+            _ => integer,
+        }),
+        ("12 before 6", |integer, [_, _, query]| match twelve_in(query) {
+            Some(word) if integer % 256 == 6 => word,
+            _ => integer,
+        }),
+        ("12 before 7", |integer, [_, _, query]| match twelve_in(query) {
+            Some(word) if integer % 256 == 7 => word,
+            _ => integer,
+        }),
+        ("11 before 12", |integer, [_, _, query]| {
+            if integer % 256 == 12 && !is_field_word(from_bytes(query)[0]) {
+                11
+            } else {
+                integer
+            }
+        }),
+    ];
+    for (name, check) in wrong {
+        assert!(is_caught(&mut Wrong { check, ..RIGHT }), "{name}");
+    }
 }
 
 #[test]

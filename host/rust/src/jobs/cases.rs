@@ -30,22 +30,28 @@ fn answers_case(seed: u64, index: u64) -> Case {
     Case::Answers { job: super::job(seed, index), out_len }
 }
 
+/// A third is honest; the others have faults in the query, in the circuit and public section, or in both.
 fn check_case(chance: &mut Chance) -> Case {
     let sketch = valid::sketch(chance);
-    let query = honest_query(&sketch);
-    if chance.one_in(3) {
-        return check_of(&sketch, sketch.job_words(), query);
+    let (mut words, mut query) = (sketch.job_words(), honest_query(&sketch));
+    let (in_query, in_words) = chance.pick(&[
+        (false, false),
+        (false, false),
+        (true, false),
+        (false, true),
+        (false, true),
+        (true, true),
+    ]);
+    if in_query {
+        query = damaged_query(chance, &sketch, query);
     }
-    if chance.one_in(3) {
-        let query = damaged_query(chance, &sketch, query);
-        return check_of(&sketch, sketch.job_words(), query);
-    }
-    let mut words = sketch.job_words();
-    for _ in 0..chance.pick(&[1, 1, 2, 4]) {
-        damage_words(chance, &sketch, &mut words);
+    if in_words {
+        for _ in 0..chance.pick(&[1, 1, 2, 4]) {
+            damage_words(chance, &sketch, &mut words);
+        }
     }
     let case = check_of(&sketch, words, query);
-    if chance.one_in(4) {
+    if in_words && chance.one_in(4) {
         cut_one_slice(chance, case)
     } else {
         case

@@ -33,11 +33,11 @@ pub fn damage_words(chance: &mut Chance, sketch: &Sketch, words: &mut [u32]) {
     let any_edge = chance.pick(&EDGE_WORDS);
     let too_big = chance.pick(&ABOVE_THE_FIELD);
     match chance.below(14) {
-        0 => words[chance.below(3)] = chance.pick(&[0, 257, sketch.n + 1, any_edge]),
+        0 => words[chance.below(3)] = chance.pick(&[0, 257, sketch.n + 1, u32::MAX, any_edge]),
         1 => {
             let at = chance.pick(&sketch.section_counts());
-            words[at] =
-                chance.pick(&[words[at].wrapping_add(1), words[at].saturating_sub(1), 1025, any_edge]);
+            let near = [words[at].wrapping_add(1), words[at].saturating_sub(1)];
+            words[at] = chance.pick(&[near[0], near[1], 1025, u32::MAX, any_edge]);
         }
         2 => damage_entry(chance, sketch, words, |chance, entry| {
             let edges = [0, sketch.m + 1, sketch.n + 1, u32::MAX];
@@ -60,7 +60,7 @@ pub fn damage_words(chance: &mut Chance, sketch: &Sketch, words: &mut [u32]) {
             words[tail + 5] = chance.pick(&[1, sketch.m, row, P as u32 + row, too_big]);
         }
         11 | 12 => break_a_row(chance, sketch, words),
-        _ => words[chance.below(words.len())] = any_edge,
+        _ => words[chance.below(words.len())] = chance.pick(&[any_edge, u32::MAX]),
     }
 }
 

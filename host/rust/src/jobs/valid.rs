@@ -6,7 +6,11 @@ use super::sketch::Sketch;
 use crate::circuit::{Entry, MOST_ENTRIES};
 use crate::field::{add, inverse, mul, sub, P};
 
+/// Any size; one in a hundred is the largest in everything.
 pub fn sketch(chance: &mut Chance) -> Sketch {
+    if chance.one_in(100) {
+        return full(chance);
+    }
     let (m, n) = (size(chance), size(chance));
     let counts = [(); 3].map(|_| entry_count(chance, m * n));
     sketch_of(chance, m, n, counts)
@@ -129,4 +133,17 @@ fn point(chance: &mut Chance, m: usize) -> u32 {
     let after = m as u32 + 1;
     let anywhere = chance.within(after as usize..=P as usize - 1) as u32;
     chance.pick(&[0, after, (P - 1) as u32, anywhere, anywhere])
+}
+
+#[cfg(test)]
+mod tests {
+    use super::*;
+    use std::collections::BTreeSet;
+
+    #[test]
+    fn every_size_comes() {
+        let mut chance = Chance::new(1, 0);
+        let drawn: BTreeSet<usize> = (0..20_000).map(|_| size(&mut chance)).collect();
+        assert!(drawn.into_iter().eq(1..=256));
+    }
 }
