@@ -1,4 +1,4 @@
-# Counting for the tests/*/run scripts, which source this file: every step adds to $passed or $failed, what a step
+# Counting for the scripts in tests/, which source this file: every step adds to $passed or $failed, what a step
 # writes is shown only where it fails, and `close` prints the one line that the gate reads.
 
 passed=0
