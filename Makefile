@@ -1,11 +1,12 @@
-# make run: proves, builds and runs the demonstration. make test: the gate, the one verdict.
-# make bench: times the polynomial loops beside Rust (docs/BENCH.md).
+# make run: proves and builds the job program, runs it on J of document 01 and says what each line is.
+# make test: the gate, the one verdict.
+# make bench: what the loops and the calls cost (docs/BENCH.md).
 # make soak: the static library against the second program on a million generated calls (host/README.md).
 .PHONY: run test bench soak
 
 run:
-	rt check marked_run
-	target/bin/marked_run
+	rt check job
+	tools/job
 
 test:
 	bash .ci/run
