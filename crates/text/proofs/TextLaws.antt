@@ -1,17 +1,17 @@
 -- Laws of decimals: one digit more, how many digits, and that they are the right ones; then of text that grows.
 use mathlib.Core.Bool.{Bool, true, false}
 use mathlib.Core.List.{List, [], _∷_, _++_, append-assoc, append-nil}
-use mathlib.Core.Path.{_≡_, refl, ap}
+use mathlib.Core.Path.{_≡_, refl, sym, _∙_, ap}
 use mathlib.Core.Logic.{⊎-elim}
 use Prim.Native.Nat.{ℕ, zero, suc, _+_, _-_, _*_, _/_, _%_, _^_, _<_, _≤_}
 use native.Mathlib.Nat.{pow-suc, eq-or-lt-of-le}
 use native.Mathlib.Numerals.{add-one}
 use native.Mathlib.Omega.{arith}
 use lib.Dec.{ltb}
-use lib.Seq.{take-suc-set, drop-cons, getD-append-seam}
-use lib.ListN.{length, getD, take, drop, set, length-append, List·getD-append, drop-of-length-le}
+use lib.Seq.{take-suc-set, drop-cons, drop-drop, drop-set-lt, getD-append-seam, length-take-le}
+use lib.ListN.{length, getD, take, drop, set, length-append, List·getD-append, take-append-drop, drop-of-length-le}
 use borrow.Author.Tests.{ltb-true, ltb-false, lt-ltb, le-ltb}
-use Rattle.text.specs.Text.{digits, decimal, line, Appended}
+use Rattle.text.specs.Text.{digits, decimal, line, Kept, Appended}
 
 digits-one : (k n : ℕ) → n < 10 → digits k n ≡ (48 + n) ∷ []
 unfolding digits
@@ -133,19 +133,46 @@ module _ (ws : List ℕ) (i : ℕ) where
   unfolding line
   line-none h = rw (drop-of-length-le ws h)
 
+-- what is kept from `end` on, and then from a later end on, is kept from there
+pub still-kept : {before text after : List ℕ} {end end2 : ℕ} → end ≤ end2 → Kept before text end → Kept text after end2 → Kept before after end2
+still-kept {before} {text} {after} {end} {end2} h first second =
+    let further : end + (end2 - end) ≡ end2 = omega arith in
+    let later : (x : List ℕ) → drop end2 x ≡ drop (end2 - end) (drop end x) = λ x. rw (drop-drop, further) in
+    record { same = second .same ∙ later text ∙ rw (first .same) (sym (later before)) }
+
 module _ {before text : List ℕ} {at room end : ℕ} {new : List ℕ} (w : Appended before at new room text end) where
   -- one byte more
   pub then-byte : (b : ℕ) → end < length text → Appended before at (new ++ (b ∷ [])) (room + 1) (set text end b) (end + 1)
   then-byte b h = record {
     text = rw (add-one, take-suc-set text end b h, w .text, append-assoc);
+    rest = still-kept (omega arith) (w .rest) (record { same = drop-set-lt (end + 1) text end b (omega arith) });
+    onward = omega arith;
     within = omega arith;
   }
 
   -- one call after another
   pub then-more : {after : List ℕ} {room2 end2 : ℕ} {new2 : List ℕ} →
       Appended text end new2 room2 after end2 → Appended before at (new ++ new2) (room + room2) after end2
-  then-more v = record { text = rw (v .text, w .text, append-assoc); within = omega arith }
+  then-more v = record {
+    text = rw (v .text, w .text, append-assoc);
+    rest = still-kept (v .onward) (w .rest) (v .rest);
+    onward = omega arith;
+    within = omega arith;
+  }
 
 -- nothing written yet
 pub nothing : (before : List ℕ) (at : ℕ) → Appended before at [] 0 before at
-nothing before at = record { text = rw append-nil; within = omega arith }
+nothing before at = record { text = rw append-nil; rest = record { same = refl }; onward = omega arith; within = omega arith }
+
+-- the same text, and the same bytes kept behind it: the same bytes
+pub same-bytes : {before x y : List ℕ} {e e2 : ℕ} → e ≤ length x → e2 ≤ length y → take e x ≡ take e2 y →
+    Kept before x e → Kept before y e2 → (e ≡ e2) × (x ≡ y)
+same-bytes {before} {x} {y} {e} {e2} h h2 text first second =
+    let end : e ≡ e2 = sym (length-take-le e x h) ∙ ap length text ∙ length-take-le e2 y h2 in
+    let rest : drop e x ≡ drop e2 y = first .same ∙ rw end (sym (second .same)) in
+    (end, sym (take-append-drop e x) ∙ rw (text, rest) (take-append-drop e2 y))
+
+-- any two results of a call are equal, since a call keeps the length
+pub appended-determined : {before x y new : List ℕ} {at room e e2 : ℕ} → at + room ≤ length before →
+    length x ≡ length before → length y ≡ length before → Appended before at new room x e → Appended before at new room y e2 → (e ≡ e2) × (x ≡ y)
+appended-determined fits kept kept2 w v = same-bytes (omega arith) (omega arith) (w .text ∙ sym (v .text)) (w .rest) (v .rest)

@@ -5,7 +5,7 @@ use mathlib.Core.List.{List, [], _∷_, _++_}
 use mathlib.Core.Path.{_≡_}
 use Prim.Native.Nat.{ℕ, zero, suc, _+_, _/_, _%_, _≤_}
 use lib.Dec.{ltb}
-use lib.ListN.{take}
+use lib.ListN.{take, drop}
 
 -- the digits of n, highest first, by at most k divisions
 unfoldable pub digits : ℕ → ℕ → List ℕ
@@ -22,7 +22,13 @@ line [] = 10 ∷ []
 line (w ∷ []) = decimal w ++ (10 ∷ [])
 line (w ∷ v ∷ ws) = decimal w ++ 32 ∷ line (v ∷ ws)
 
--- the text up to `end` is the earlier text up to `at` with `new` behind it, and `new` took at most `room` bytes
+-- the bytes from `end` on are as they were
+pub record Kept (before after : List ℕ) (end : ℕ) : Type 0 where
+  pub same : drop end after ≡ drop end before
+
+-- the text up to `end` is the earlier text up to `at` with `new` behind it, and `new` took at most `room` bytes; what comes after is kept
 pub record Appended (before : List ℕ) (at : ℕ) (new : List ℕ) (room : ℕ) (after : List ℕ) (end : ℕ) : Type 0 where
   pub text : take end after ≡ take at before ++ new
+  pub rest : Kept before after end
+  pub onward : at ≤ end
   pub within : end ≤ at + room

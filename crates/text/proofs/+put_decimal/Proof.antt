@@ -37,7 +37,12 @@ module _ (t : ℕ) where
   one-digit c =
       let args = c .before .before .args in
       let done = then-byte (nothing (args .text .now) (args .at)) (48 + args .n) (first-room c) in
-      record { text = rw (decimal-one _ (c .if1 .taken)) (done .text); within = omega (arith, size-one _ (c .if1 .taken)) }
+      record {
+        text = rw (decimal-one _ (c .if1 .taken)) (done .text);
+        rest = done .rest;
+        onward = done .onward;
+        within = omega (arith, size-one _ (c .if1 .taken));
+      }
 
   call : put-decimal-lts.Need-put-decimal-requires (below t, put-decimal.Post) (at-measure t) put-decimal.Post
   call c κs = (omega arith, omega (arith, size-more _ (c .before .if1 .left)))
@@ -52,7 +57,12 @@ module _ (t : ℕ) where
   last-digit c =
       let many = c .before .before .before .before .if1 .left in
       let done = then-byte (c .before .before .put-decimal .ensures) _ (last-room c) in
-      record { text = rw (decimal-more _ many) (done .text); within = omega (arith, size-more _ many) }
+      record {
+        text = rw (decimal-more _ many) (done .text);
+        rest = done .rest;
+        onward = done .onward;
+        within = omega (arith, size-more _ many);
+      }
 
 pub +put-decimal-spec : {M : Type 1} → statement M
 +put-decimal-spec = close μ λ t. put-decimal-lts.spec (below t, put-decimal.Post) (at-measure t) put-decimal.Post

@@ -1,19 +1,19 @@
--- Invariant: the text so far, with the line of the words left, is the whole text; each word left has 21 bytes of room.
+-- Invariant: the text so far, with the line of the words left, is the whole text; the bytes behind are kept; each word left has 21 bytes of room.
 use mathlib.Core.List.{_++_, append-assoc}
 use mathlib.Core.Path.{_≡_}
 use Prim.Native.Nat.{_+_, _-_, _*_, _≤_}
 use native.Mathlib.Omega.{arith}
 use borrow.Author.Needs.{needs}
 use lib.ListN.{length, take, drop}
-use Rattle.text.specs.Text.{line}
-use Rattle.text.proofs.TextLaws.{line-more, line-last, line-none, then-byte, nothing}
+use Rattle.text.specs.Text.{line, Kept}
+use Rattle.text.proofs.TextLaws.{line-more, line-last, line-none, then-byte, nothing, still-kept}
 use Rattle.text.proofs.put_line.Statement.{statement}
 use Rattle.text.proofs.put_line.Tie as tie
 
 abbrev Inv-loop : tie.InvT-loop
 Inv-loop words text₀ at end₀ i₀ text end i =
     (i ≤ length words) × (length text ≡ length text₀) × (end + 21 * (length words - i) ≤ at + 21 * length words)
-    × (take end text ++ line (drop i words) ≡ take at text₀ ++ line words)
+    × (take end text ++ line (drop i words) ≡ take at text₀ ++ line words) × (at ≤ end) × Kept text₀ text end
 
 abbrev μ-loop : tie.MeasureT-loop
 μ-loop words text₀ at end₀ i₀ text end i = length words - i
@@ -25,11 +25,14 @@ loop-again : tie.Need-loop-again Inv-loop μ-loop
 loop-again c =
     let at-loop = c .before .before .before .before .before .before in
     let words = at-loop .before .before .before .args .words .now in
-    let left = line-more words (at-loop .loop .i) (omega arith) in (
+    let left = line-more words (at-loop .loop .i) (omega arith) in
+    let number = c .before .before .put-number .ensures in (
       search needs,
       search needs,
       search needs,
-      rw (c .before .before .put-number .ensures .text) (simp append-assoc (rw left at (at-loop .loop .inv .3))),
+      rw (number .text) (simp append-assoc (rw left at (at-loop .loop .inv .3))),
+      search needs,
+      still-kept (number .onward) (at-loop .loop .inv .5) (number .rest),
     )
 
 cast-put-number-2 : tie.Need-cast-put-number-2 Inv-loop μ-loop
@@ -40,8 +43,11 @@ returns c =
     let at-loop = c .before .before .before .before .before .before .before in
     let words = at-loop .before .before .before .args .words .now in
     let left = line-last words (at-loop .loop .i) (omega arith) in
+    let number = c .before .before .put-number2 .ensures in
     record {
-      text = rw (c .before .before .put-number2 .ensures .text) (rw left at (at-loop .loop .inv .3));
+      text = rw (number .text) (rw left at (at-loop .loop .inv .3));
+      rest = still-kept (number .onward) (at-loop .loop .inv .5) (number .rest);
+      onward = omega arith;
       within = omega arith;
     }
 
@@ -52,6 +58,8 @@ returns-2 c =
     let done = then-byte (nothing (loop .text) (loop .end)) 10 (omega arith) in
     record {
       text = rw (done .text) (rw (line-none words (loop .i) (omega arith)) at (loop .inv .3));
+      rest = still-kept (done .onward) (loop .inv .5) (done .rest);
+      onward = omega arith;
       within = omega arith;
     }
 

@@ -18,7 +18,12 @@ returns : tie.Need-returns
 returns c =
     let start = c .before .before .before .before .before in
     let done = then-byte (c .before .before .put-decimal .ensures) (start .args .mark) (slice-write-text c) in
-    record { text = done .text; within = omega (arith, digits-64 (start .args .n) (search needs)) }
+    record {
+      text = done .text;
+      rest = done .rest;
+      onward = done .onward;
+      within = omega (arith, digits-64 (start .args .n) (search needs));
+    }
 
 pub put-number-spec : {M : Type 1} → statement M
 put-number-spec = tie.close (tie.spec put-decimal-requires slice-write-text add-result (λ c. search needs) returns)
