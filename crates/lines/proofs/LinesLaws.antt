@@ -29,17 +29,19 @@ use Rattle.file.proofs.FileLaws.{file-ready, file-answers-ready}
 use Rattle.lines.specs.Lines.{programVerdict, fiveLines, FiveOf, FiveLines, Reports, Prints}
 use Rattle.lines.specs.Written.{Written}
 
-module _ {verdict o : Outcome} (Done : List ℕ → Type 0) (e : o ≡ verdict) {bytes : List ℕ} {end : ℕ} where
-  pub reports-refused : (o .number ≡ 0 → ⊥) → Written (λ t. t ≡ line (o .number ∷ o .place ∷ [])) bytes end →
-      Written (Reports verdict Done) bytes end
+module _ {verdict o : Outcome} (Done : List ℕ → Type 0) (e : o ≡ verdict) {before bytes : List ℕ} {end : ℕ} where
+  pub reports-refused : (o .number ≡ 0 → ⊥) → Written (λ t. t ≡ line (o .number ∷ o .place ∷ [])) before bytes end →
+      Written (Reports verdict Done) before bytes end
   reports-refused h w = record {
     says = record { done = λ a. absurd (not-both a (is-refused e h)); refused = λ r. rw (← e) (w .says) };
+    rest = w .rest;
     within = w .within;
   }
 
-  pub reports-done : o .number ≡ 0 → Written Done bytes end → Written (Reports verdict Done) bytes end
+  pub reports-done : o .number ≡ 0 → Written Done before bytes end → Written (Reports verdict Done) before bytes end
   reports-done h w = record {
     says = record { done = λ a. w .says; refused = λ r. absurd (not-both (is-accepted e h) r) };
+    rest = w .rest;
     within = w .within;
   }
 
@@ -61,9 +63,9 @@ module _ (b : List ℕ) (h : Accepted (sizeVerdict (length b))) where
   unfolding programVerdict
   words-decide = goes-on _ h
 
-  pub size-goes-on : {bytes : List ℕ} {end : ℕ} → Written (Reports (jobVerdict (unpacked b)) (FiveLines (unpacked b))) bytes end →
-      Written (Prints b) bytes end
-  size-goes-on w = record { says = rw words-decide (w .says); within = w .within }
+  pub size-goes-on : {before bytes : List ℕ} {end : ℕ} → Written (Reports (jobVerdict (unpacked b)) (FiveLines (unpacked b))) before bytes end →
+      Written (Prints b) before bytes end
+  size-goes-on w = record { says = rw words-decide (w .says); rest = w .rest; within = w .within }
 
   -- 9486 words have room for all bytes
   pub size-room : (w : List ℕ) → 9486 ≤ length w → length b / 4 ≤ length w
@@ -102,10 +104,10 @@ module _ (c a : List ℕ) (d : Blinders) (s : ℕ) (h : Accepted (answersVerdict
   quotient-accepted e = accepted-both (accepted-parts h .0) (accepted-both (exact e) (answers-ready c a d s h .rows-hold))
 
   -- the five lines of what the calls gave
-  pub five-written : {r : FourAnswers} {m : ℕ} {z z' f f' b bytes : List ℕ} {end : ℕ} {o o' check : Outcome} →
+  pub five-written : {r : FourAnswers} {m : ℕ} {z z' f f' b before bytes : List ℕ} {end : ℕ} {o o' check : Outcome} →
       IsAnswers c a d s r → m ≡ rows c → length z ≡ rows c + 1 → length f ≡ rows c + 1 →
       TargetCall m z z' o → QuotientCall c a d f f' o' → b ≡ publicSection c a → CheckAnswersCall c b s r check →
-      Written (λ t. t ≡ fiveLines z' f' r (check .number)) bytes end → Written (FiveOf c a d s) bytes end
+      Written (λ t. t ≡ fiveLines z' f' r (check .number)) before bytes end → Written (FiveOf c a d s) before bytes end
   five-written {r} {z = z} {z' = z'} {f' = f'} {o = o} {check = check} answered rows-of z-size f-size target quotient handed judged w = record {
     says = record {
       quotient = f';
@@ -116,6 +118,7 @@ module _ (c a : List ℕ) (d : Blinders) (s : ℕ) (h : Accepted (answersVerdict
       is-check = rw handed at judged;
       lines = w .says ∙ ap (λ (x : List ℕ). fiveLines x f' r (check .number)) z-is;
     };
+    rest = w .rest;
     within = w .within;
   }
     where

@@ -4,12 +4,11 @@ use mathlib.Core.List.{List}
 use mathlib.Core.Logic.{⊎-elim}
 use mathlib.Core.Path.{_≡_, sym, _∙_, ap}
 use Prim.Native.Nat.{ℕ}
-use lib.ListN.{length, take}
-use lib.Seq.{length-take-le}
 use Rattle.outcome.specs.declared.Outcome.{Outcome}
 use Rattle.outcome.specs.Verdict.{Accepted, Refused, fine}
 use Rattle.outcome.proofs.Verdict.{accepted-or-refused, accepted-parts, not-both}
 use Rattle.packing.specs.Packing.{unpacked}
+use Rattle.text.proofs.TextLaws.{same-bytes}
 use Rattle.qap.specs.declared.Blinders.{Blinders}
 use Rattle.qap.specs.Calls.{AnswersCall}
 use Rattle.qap.specs.Refusals.{answersVerdict}
@@ -21,7 +20,7 @@ use Rattle.qap.proofs.Settings.{answers-ready, distinct-points}
 use Rattle.file.specs.File.{jobVerdict}
 use Rattle.file.proofs.FileLaws.{job-answers}
 use Rattle.lines.specs.Lines.{programVerdict, FiveOf, FiveLines, Prints}
-use Rattle.lines.specs.Written.{Written}
+use Rattle.lines.specs.Written.{Written, blank}
 
 module _ {c a : List ℕ} {d : Blinders} {s : ℕ} (h : Accepted (answersVerdict c a d s)) where
   five-determined : {t t' : List ℕ} → FiveOf c a d s t → FiveOf c a d s t' → t ≡ t'
@@ -50,11 +49,9 @@ printed-determined b x y = ⊎-elim
     (λ (r : Refused (programVerdict b)). x .refused r ∙ sym (y .refused r))
     (accepted-or-refused (programVerdict b))
 
--- and so are two results of the run: as long, and the same text
-pub run-determined : (b : List ℕ) {x y : List ℕ} {e e' : ℕ} → Written (Prints b) x e → Written (Prints b) y e' → (e ≡ e') × (take e x ≡ take e' y)
-run-determined b {x} {y} {e} {e'} w v =
-    let same = printed-determined b (w .says) (v .says) in
-    (sym (length-take-le e x (w .within)) ∙ ap length same ∙ length-take-le e' y (v .within), same)
+-- and so are two results of the run: as long, and the same bytes
+pub run-determined : (b : List ℕ) {x y : List ℕ} {e e' : ℕ} → Written (Prints b) blank x e → Written (Prints b) blank y e' → (e ≡ e') × (x ≡ y)
+run-determined b w v = same-bytes (w .within) (v .within) (printed-determined b (w .says) (v .says)) (w .rest) (v .rest)
 
 -- the last of the five lines says 0
 pub check-number : (w : List ℕ) {t : List ℕ} → Accepted (jobVerdict w) → (x : FiveLines w t) → x .check .number ≡ 0

@@ -1,8 +1,14 @@
--- Text in lent bytes: what the bytes up to an end say. Document 01, "The program and one run whole".
+-- Text in lent bytes: what the bytes up to an end say; those behind are kept. Document 01, "The program and one run whole".
 use mathlib.Core.List.{List}
 use Prim.Native.Nat.{ℕ, _≤_}
-use lib.ListN.{length, take}
+use lib.ListN.{length, take, replicate}
+use Rattle.text.specs.Text.{Kept}
 
-pub record Written (Says : List ℕ → Type 0) (bytes : List ℕ) (end : ℕ) : Type 0 where
+pub record Written (Says : List ℕ → Type 0) (before bytes : List ℕ) (end : ℕ) : Type 0 where
   pub says : Says (take end bytes)
+  pub rest : Kept before bytes end
   pub within : end ≤ length bytes
+
+-- the bytes before anything is written
+unfoldable pub blank : List ℕ
+blank = replicate 11008 0

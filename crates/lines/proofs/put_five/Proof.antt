@@ -16,7 +16,7 @@ returns c =
     let sized = start .pre in
     let three = then-more (then-more (first .put-two .ensures) (second .put-line .ensures)) (third .put-line2 .ensures) in
     let done = then-more (then-more three (fourth .put-line3 .ensures)) (fifth .put-line4 .ensures) in
-    record { says = done .text; within = omega (arith, done .within) }
+    record { says = done .text; rest = done .rest; within = omega (arith, done .within) }
 
 pub put-five-spec : {M : Type 1} → statement M
 put-five-spec = tie.close
