@@ -1,4 +1,3 @@
-pub mod Chained
 pub mod Small
 pub mod LongSection
 pub mod OneResult

@@ -1,17 +1,12 @@
--- How each layer meets what is printed: a refusal's line, a verdict that goes on, and what accepted answers give the other calls.
+-- How each layer meets what is printed: a refusal's line, the five lines, and what accepted answers give the other calls.
 use mathlib.Core.List.{List, [], _∷_}
 use mathlib.Core.Path.{_≡_, sym, _∙_, ap}
-use Prim.Native.Nat.{ℕ, _+_, _*_, _/_, _%_, _≤_}
-use native.Mathlib.Omega.{arith}
-use borrow.Author.Tests.{leb-true, eq-eqb, eqb-true}
-use lib.Dec.{lit<}
-use lib.ListN.{length, take}
-use lib.Seq.{length-take-le}
+use Prim.Native.Nat.{ℕ, _+_}
+use borrow.Author.Tests.{eq-eqb}
+use lib.ListN.{length}
 use Rattle.outcome.specs.declared.Outcome.{Outcome}
 use Rattle.outcome.specs.Verdict.{Accepted}
-use Rattle.outcome.proofs.Chain.{called-refused}
-use Rattle.outcome.proofs.Verdict.{accepted-both, accepted-parts, accepted-require, goes-on, is-accepted, is-refused, not-both, require-accepted, taken, within-true}
-use Rattle.packing.specs.Packing.{unpacked}
+use Rattle.outcome.proofs.Verdict.{accepted-both, accepted-parts, accepted-require, goes-on, is-accepted, is-refused, not-both, within-true}
 use Rattle.text.specs.Text.{line}
 use Rattle.circuit.specs.Circuit.{rows, leading}
 use Rattle.circuit.specs.WellFormed.{Formed}
@@ -24,9 +19,9 @@ use Rattle.qap.specs.Answers.{IsAnswers}
 use Rattle.qap.specs.Calls.{TargetCall, QuotientCall, CheckAnswersCall}
 use Rattle.qap.specs.Refusals.{lengthVerdict, targetVerdict, quotientVerdict, answersVerdict}
 use Rattle.qap.proofs.Settings.{answers-ready}
-use Rattle.file.specs.File.{assignmentOf, blindersOf, pointOf, sizeVerdict, fileVerdict, jobVerdict}
+use Rattle.file.specs.File.{assignmentOf, blindersOf, pointOf, fileVerdict, jobVerdict}
 use Rattle.file.proofs.FileLaws.{file-ready, file-answers-ready}
-use Rattle.lines.specs.Lines.{programVerdict, fiveLines, FiveOf, FiveLines, Reports, Prints}
+use Rattle.lines.specs.Lines.{fiveLines, FiveOf, Reports}
 use Rattle.lines.specs.Written.{Written}
 
 module _ {verdict o : Outcome} (Done : List ℕ → Type 0) (e : o ≡ verdict) {before bytes : List ℕ} {end : ℕ} where
@@ -45,42 +40,7 @@ module _ {verdict o : Outcome} (Done : List ℕ → Type 0) (e : o ≡ verdict) 
     within = w .within;
   }
 
--- the length's verdict
-
-pub size-refused : (b : List ℕ) {o : Outcome} → o ≡ sizeVerdict (length b) → (o .number ≡ 0 → ⊥) → o ≡ programVerdict b
-unfolding programVerdict
-size-refused b told positive = called-refused _ told positive
-
-size-fits : (n : ℕ) → Accepted (sizeVerdict n) → (n ≤ 37944) × (n % 4 ≡ 0)
-unfolding sizeVerdict
-size-fits n h =
-    let parts = taken _ _ _ (lit< tt) h in
-    (leb-true _ _ (parts .0), eqb-true _ _ (require-accepted _ _ _ (lit< tt) (parts .1)))
-
-module _ (b : List ℕ) (h : Accepted (sizeVerdict (length b))) where
-  -- past it the words decide
-  words-decide : programVerdict b ≡ jobVerdict (unpacked b)
-  unfolding programVerdict
-  words-decide = goes-on _ h
-
-  pub size-goes-on : {before bytes : List ℕ} {end : ℕ} → Written (Reports (jobVerdict (unpacked b)) (FiveLines (unpacked b))) before bytes end →
-      Written (Prints b) before bytes end
-  size-goes-on w = record { says = rw words-decide (w .says); rest = w .rest; within = w .within }
-
-  -- 9486 words have room for all bytes
-  pub size-room : (w : List ℕ) → 9486 ≤ length w → length b / 4 ≤ length w
-  size-room w l = omega (arith, size-fits (length b) h)
-
-  pub size-whole : (w : List ℕ) → 9486 ≤ length w → length b ≡ 4 * length (take (length b / 4) w)
-  size-whole w l = rw (length-take-le (length b / 4) w (size-room w l)) (omega (arith, size-fits (length b) h))
-
--- the words' verdict
-
-pub file-refused : (w : List ℕ) {o : Outcome} → o ≡ fileVerdict w → (o .number ≡ 0 → ⊥) → o ≡ jobVerdict w
-unfolding jobVerdict
-file-refused w told positive = called-refused _ told positive
-
--- past it the call for answers decides: only 10 is left
+-- past the file's verdict the call for answers decides: only 10 is left
 pub file-goes-on : (w : List ℕ) → Accepted (fileVerdict w) →
     jobVerdict w ≡ answersVerdict (leading w) (assignmentOf w) (blindersOf w) (pointOf w)
 unfolding jobVerdict answersVerdict

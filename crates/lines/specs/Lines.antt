@@ -50,4 +50,4 @@ pub record Reports (verdict : Outcome) (Done : List ℕ → Type 0) (text : List
   pub refused : Refused verdict → text ≡ line (verdict .number ∷ verdict .place ∷ [])
 
 abbrev pub Prints : List ℕ → List ℕ → Type 0
-Prints bytes text = Reports (programVerdict bytes) (FiveLines (unpacked bytes)) text
+Prints bytes = Reports (programVerdict bytes) (FiveLines (unpacked bytes))

@@ -6,10 +6,11 @@ use borrow.Author.Needs.{needs}
 use lib.ListN.{length}
 use lib.Seq.{length-take-le}
 use Rattle.outcome.specs.Verdict.{Accepted}
+use Rattle.outcome.proofs.Chain.{called-refused}
 use Rattle.outcome.proofs.Verdict.{is-accepted}
-use Rattle.file.specs.File.{fileVerdict}
+use Rattle.file.specs.File.{fileVerdict, jobVerdict}
 use Rattle.file.proofs.FileLaws.{Lent, lent}
-use Rattle.lines.proofs.LinesLaws.{reports-refused, file-refused, file-goes-on}
+use Rattle.lines.proofs.LinesLaws.{reports-refused, file-goes-on}
 use Rattle.lines.proofs.print_words.Statement.{statement}
 use Rattle.lines.proofs.print_words.Tie as tie
 
@@ -23,11 +24,12 @@ within : (c : tie.Else1) → c .before .before .read .result .circuit ≤ length
 within c = let l = parts c in omega (arith, l .ordered, l .within)
 
 returns : tie.Need-returns
+unfolding jobVerdict
 returns c =
     let refused = c .before .before in
     let chosen = refused .before .before in
     let told = chosen .before .before .read .ensures .number-and-place in
-    reports-refused _ (file-refused _ told (chosen .if1 .taken)) (chosen .if1 .taken) (refused .refuse .ensures)
+    reports-refused _ (called-refused _ told (chosen .if1 .taken)) (chosen .if1 .taken) (refused .refuse .ensures)
 
 returns-2 : tie.Need-returns-2
 returns-2 c =

@@ -1,10 +1,9 @@
 -- 14 first, then the words.
 use borrow.Author.Needs.{needs}
 use Rattle.outcome.proofs.Chain.{called-refused}
-use Rattle.outcome.proofs.Verdict.{is-accepted}
+use Rattle.outcome.proofs.Verdict.{is-accepted, goes-on}
 use Rattle.qap.proofs.Filling.{filled-refused}
 use Rattle.host.specs.Exports.{answersBytesVerdict}
-use Rattle.host.proofs.Chained.{filled-next}
 use Rattle.host.proofs.answering.answers_bytes.Statement.{statement}
 use Rattle.host.proofs.answering.answers_bytes.Tie as tie
 
@@ -20,7 +19,7 @@ unfolding answersBytesVerdict
 returns-2 c =
     let found = c .before .before in
     let past = found .before .before in
-    filled-next _ (is-accepted (past .before .before .size-verdict .ensures) (past .if1 .left)) (found .answers-sized .ensures)
+    rw (goes-on _ (is-accepted (past .before .before .size-verdict .ensures) (past .if1 .left))) (found .answers-sized .ensures)
 
 pub answers-bytes-spec : {M : Type 1} → statement M
 answers-bytes-spec = tie.close (tie.spec (λ c κs. search needs) returns accepted (λ c. search needs) returns-2)

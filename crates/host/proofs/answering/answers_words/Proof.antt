@@ -6,14 +6,13 @@ use lib.ListN.{length}
 use lib.Seq.{length-take-le}
 use Rattle.outcome.specs.Verdict.{Accepted}
 use Rattle.outcome.proofs.Chain.{called-refused}
-use Rattle.outcome.proofs.Verdict.{is-accepted}
+use Rattle.outcome.proofs.Verdict.{is-accepted, goes-on}
 use Rattle.qap.specs.Refusals.{lengthVerdict}
 use Rattle.qap.proofs.Settings.{exact-length}
 use Rattle.qap.proofs.Filling.{filled-refused}
 use Rattle.file.specs.File.{fileVerdict}
 use Rattle.file.proofs.FileLaws.{file-ready, file-answers-ready, Lent, lent}
 use Rattle.host.specs.Exports.{wordsThenSize}
-use Rattle.host.proofs.Chained.{filled-next}
 use Rattle.host.proofs.answering.answers_words.Statement.{statement}
 use Rattle.host.proofs.answering.answers_words.Tie as tie
 
@@ -36,7 +35,7 @@ returns-2 : tie.Need-returns-2
 unfolding wordsThenSize
 returns-2 c =
     let past = c .before .before .before in
-    filled-next _ (accepted past) (filled-refused _ (called-refused _ (c .before .before .length-verdict .ensures) (c .if2 .taken)) _ (c .if2 .taken))
+    rw (goes-on _ (accepted past)) (filled-refused _ (called-refused _ (c .before .before .length-verdict .ensures) (c .if2 .taken)) _ (c .if2 .taken))
 
 requires : tie.Need-answers-of-requires
 requires c κs =
@@ -56,7 +55,7 @@ returns-3 c =
     let l = parts past in
     let all = accepted past in
     let p = past .before .before .before .read .ensures .parted all in
-    filled-next _ all (filled-next _ (sized sizing) (rw (l .circuit, l .assignment, p .blinders, p .point) at (found .answers-of .ensures)))
+    rw (goes-on _ all, goes-on _ (sized sizing)) (rw (l .circuit, l .assignment, p .blinders, p .point) at (found .answers-of .ensures))
 
 pub answers-words-spec : {M : Type 1} → statement M
 answers-words-spec = tie.close

@@ -5,11 +5,10 @@ use borrow.Author.Needs.{needs}
 use borrow.Author.Tests.{eq-eqb}
 use Rattle.outcome.specs.Verdict.{Accepted}
 use Rattle.outcome.proofs.Chain.{calls, called-refused}
-use Rattle.outcome.proofs.Verdict.{is-accepted, accepted-require}
+use Rattle.outcome.proofs.Verdict.{is-accepted, accepted-require, goes-on}
 use Rattle.file.specs.File.{sizeVerdict}
 use Rattle.refusals.proofs.Deciding.{judged-refused}
 use Rattle.host.specs.Exports.{checkBytesVerdict}
-use Rattle.host.proofs.Chained.{judged-next}
 use Rattle.host.proofs.checking.check_bytes.Statement.{statement}
 use Rattle.host.proofs.checking.check_bytes.Tie as tie
 
@@ -39,9 +38,11 @@ unfolding checkBytesVerdict
 returns-4 c =
     let second = c .before .before in
     let first = second .before .before .before in
-    judged-next _ (is-accepted (first .before .before .size-verdict .ensures) (first .if1 .left))
-    (judged-next _ (is-accepted (second .before .before .size-verdict2 .ensures) (second .if2 .left))
-    (judged-next _ (accepted-require 14 0 (eq-eqb _ _ (c .before .if3 .left))) (c .check-sized .ensures)))
+    rw (
+      goes-on _ (is-accepted (first .before .before .size-verdict .ensures) (first .if1 .left)),
+      goes-on _ (is-accepted (second .before .before .size-verdict2 .ensures) (second .if2 .left)),
+      goes-on _ (accepted-require 14 0 (eq-eqb _ _ (c .before .if3 .left))),
+    ) (c .check-sized .ensures)
 
 pub check-bytes-spec : {M : Type 1} → statement M
 check-bytes-spec = tie.close
