@@ -12,6 +12,13 @@ pub mod valid;
 use chance::Chance;
 use damage::{damage_bytes, damage_words};
 
+/// The job that the calls are measured on: valid and full, as many rows as columns. Only the assignment's division
+/// into public and private values depends on `public`, how many of the columns are.
+pub fn full_job(size: usize, public: usize) -> sketch::Sketch {
+    let full = valid::full_of(&mut Chance::new(1, size as u64), size);
+    sketch::Sketch { q: public as u32, point: 1_234_567_890, ..full }
+}
+
 /// The index-th job file of a seed: a third is valid, the rest has one fault or several.
 pub fn job(seed: u64, index: u64) -> Vec<u8> {
     let mut chance = Chance::new(seed, index);

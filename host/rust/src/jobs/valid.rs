@@ -16,12 +16,17 @@ pub fn sketch(chance: &mut Chance) -> Sketch {
     sketch_of(chance, m, n, counts)
 }
 
-/// m = n = 256 and 1,024 entries a section: the longest file there is. A row whose open entry solves to 0 has
-/// none, so it takes some tries.
+/// m = n = 256 and 1,024 entries a section: the longest file there is.
 pub fn full(chance: &mut Chance) -> Sketch {
+    full_of(chance, 256)
+}
+
+/// As many rows as columns, at least 32, and 1,024 entries a section. A row whose open entry solves to 0 has
+/// none, so it takes some tries.
+pub fn full_of(chance: &mut Chance, size: usize) -> Sketch {
     let most = MOST_ENTRIES as usize;
     loop {
-        let sketch = sketch_of(chance, 256, 256, [most; 3]);
+        let sketch = sketch_of(chance, size, size, [most; 3]);
         if sketch.sections[2].len() == most {
             return sketch;
         }
