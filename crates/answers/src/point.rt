@@ -1,4 +1,5 @@
 // Three parts at a point with their blinders, and the quotient's value there (document 01, "Query and checks").
+ghost use mathlib.Core.List.{List};
 ghost use mathlib.Core.Path.{_≡_};
 ghost use Prim.Native.Nat.{ℕ, _+_, _*_, _<_};
 ghost use lib.ListN.{length};
@@ -9,7 +10,7 @@ ghost use Rattle.circuit.specs.Circuit.{rows, columns};
 ghost use Rattle.circuit.specs.WellFormed.{Formed};
 ghost use Rattle.rows.specs.Sums.{Span};
 ghost use Rattle.qap.specs.declared.Blinders.{Blinders};
-ghost use Rattle.answers.specs.Three.{ThreeAt};
+ghost use Rattle.answers.specs.Three.{ThreeAt, WholeSums};
 use qap::Blinders;
 
 pub struct Three {
@@ -42,6 +43,20 @@ pub fn three_at(
         first,
         second,
         third: field::add_scaled(e, d.third, z),
+    }
+}
+
+// A'(s), B'(s), C'(s) from the row sums a, b, c over all columns and the basis values w.
+pub fn three_of(a: &[u32], b: &[u32], c: &[u32], d: Blinders, z: u32, w: &[u32]) -> Three
+    requires { ⌜ (length (now a) ≡ length (now w)) × (length (now b) ≡ length (now w)) × (length (now c) ≡ length (now w)) ⌝ }
+    ensures { λ r. ⌜ ((k v : List ℕ) (s : ℕ) → Formed k → WholeSums k v (now (a .entry)) (now (b .entry)) (now (c .entry)) → BasisAt p (rows k) s (now (w .entry)) z → ThreeAt k v 0 d s r) ⌝ }
+{
+    let first = field::add_scaled(basis::dot(a, w), d.first, z);
+    let second = field::add_scaled(basis::dot(b, w), d.second, z);
+    Three {
+        first,
+        second,
+        third: field::add_scaled(basis::dot(c, w), d.third, z),
     }
 }
 

@@ -3,21 +3,23 @@ ghost use mathlib.Core.Path.{_≡_};
 ghost use Prim.Native.Nat.{_*_, _≤_};
 ghost use lib.ListN.{length};
 ghost use Rattle.outcome.specs.Verdict.{Accepted};
-ghost use Rattle.packing.specs.Packing.{unpacked};
+ghost use Rattle.packing.specs.Packing.{packed, unpacked};
 ghost use Rattle.rows.specs.Rows.{rowsVerdict};
 ghost use Rattle.qap.specs.declared.Blinders.{Blinders};
-ghost use Rattle.qap.specs.Refusals.{readyVerdict, pointVerdict, answersVerdict};
+ghost use Rattle.qap.specs.declared.FourAnswers.{FourAnswers};
+ghost use Rattle.qap.specs.Refusals.{answerWords, readyVerdict, pointVerdict};
 ghost use Rattle.qap.specs.Calls.{Filled};
 ghost use Rattle.file.specs.File.{sizeVerdict};
 ghost use Rattle.host.specs.Exports.{AnswerBytes, JobBytes, wordsThenSize, answersBytesVerdict};
 use outcome::Outcome;
 use qap::Blinders;
+use qap::FourAnswers;
 
-fn write_answers(circuit: &[u32], values: &[u32], d: Blinders, s: u32, out: &mut [u8])
-    requires { ⌜ Accepted (answersVerdict (now circuit) (now values) d s) × (length (now out) ≡ 16) ⌝ }
-    ensures { λ _. ⌜ AnswerBytes (now (circuit .entry)) (now (values .entry)) d s (now (out .exit)) ⌝ }
+// The four answers as 16 bytes.
+fn write_answers(r: FourAnswers, out: &mut [u8])
+    requires { ⌜ length (now out) ≡ 16 ⌝ }
+    ensures { λ _. ⌜ now (out .exit) ≡ packed (answerWords r) ⌝ }
 {
-    let r = answers::fill_answers(circuit, values, d, s);
     let words = [r.first, r.second, r.third, r.fourth];
     packing::pack(&words, out);
 }
@@ -27,11 +29,12 @@ fn answers_of(circuit: &[u32], values: &[u32], d: Blinders, s: u32, out: &mut [u
     requires { ⌜ Accepted (readyVerdict (now circuit) (now values) d) × Accepted (pointVerdict (now circuit) s) × (length (now out) ≡ 16) ⌝ }
     ensures { λ o. ⌜ Filled (rowsVerdict (now (circuit .entry)) (now (values .entry))) (AnswerBytes (now (circuit .entry)) (now (values .entry)) d s) (now (out .entry)) (now (out .exit)) o ⌝ }
 {
-    let hold = refusals::rows_verdict(circuit, values);
+    let found = answers::answer_rows(circuit, values, d, s);
+    let hold = found.outcome;
     if hold.number != 0 {
         return hold;
     }
-    write_answers(circuit, values, d, s, out);
+    write_answers(found.numbers, out);
     hold
 }
 

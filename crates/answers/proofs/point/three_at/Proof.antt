@@ -1,17 +1,8 @@
 -- Three parts, each with its multiple of z added.
-use mathlib.Core.Path.{_≡_, _∙_}
-use mathlib.Core.List.{List}
-use Prim.Native.Nat.{ℕ, _+_, _*_, _%_}
+use mathlib.Core.Path.{_∙_}
 use native.Mathlib.Omega.{arith}
 use borrow.Author.Needs.{needs}
-use Rattle.algebra.specs.Polynomial.{value}
-use Rattle.algebra.proofs.Congruence.{≈-plus, ≈-times, ≈-reduced}
-use Rattle.field.specs.Field.{p}
-use Rattle.basis.specs.BasisAt.{BasisAt}
-use Rattle.circuit.specs.Circuit.{rows, columns}
-use Rattle.qap.specs.Polynomials.{targetOf}
-use Rattle.parts.specs.PartAt.{PartAt}
-use Rattle.answers.specs.Three.{BlindedAt}
+use Rattle.answers.proofs.FourLaws.{blinded-at}
 use Rattle.answers.proofs.point.three_at.Statement.{statement}
 use Rattle.answers.proofs.point.three_at.Tie as tie
 
@@ -34,14 +25,6 @@ requires-3 c κs =
       (c .before .before .before .before .part-value2 .kept .1 .1 .1 .1 .1 .1 .0 ∙ c .before .before .before .before .before .before .before .before .before .part-value .kept .1 .1 .1 .1 .1 .1 .0 ∙ start .pre .1 .0, start .pre .1 .1),
     )
 
--- a part's value and the target's, as words
-blinded : {c a b : List ℕ} (matrix from to d s z v r : ℕ) → to ≡ columns c → BasisAt p (rows c) s b z → PartAt c a matrix from to s v →
-    r ≡ (v + d * z) % p → BlindedAt c a matrix from d s r
-blinded {c} {a} matrix from to d s z v r all basis part made f is-part =
-    let one = part f (rw all is-part) in
-    made ∙ rw (one, basis .target-at)
-    (≈-plus (≈-reduced p (value f s)) (≈-times d (≈-reduced p (value (targetOf c) s))) .same)
-
 returns : tie.Need-returns
 returns c s basis =
     let start = c .before .before .before .before .before .before .before .before .before .before .before .before .before .before .before .before .before .before .before .before in
@@ -50,9 +33,9 @@ returns c s basis =
     let n = c .before .before .before .before .before .before .before .before .before .before .before .before .before .before .before .columns-of .ensures in
     let values = basis .values in
     record {
-      first = blinded 0 (start .args .from) _ (d .first) s z _ _ n basis (c .before .before .before .before .before .before .before .before .before .before .before .before .before .part-value .ensures s values) (c .before .before .before .before .before .before .before .before .before .before .add-scaled .ensures);
-      second = blinded 1 (start .args .from) _ (d .second) s z _ _ n basis (c .before .before .before .before .before .before .before .before .part-value2 .ensures s values) (c .before .before .before .before .before .add-scaled2 .ensures);
-      third = blinded 2 (start .args .from) _ (d .third) s z _ _ n basis (c .before .before .before .part-value3 .ensures s values) (c .add-scaled3 .ensures);
+      first = blinded-at 0 (start .args .from) _ (d .first) s z _ _ n basis (c .before .before .before .before .before .before .before .before .before .before .before .before .before .part-value .ensures s values) (c .before .before .before .before .before .before .before .before .before .before .add-scaled .ensures);
+      second = blinded-at 1 (start .args .from) _ (d .second) s z _ _ n basis (c .before .before .before .before .before .before .before .before .part-value2 .ensures s values) (c .before .before .before .before .before .add-scaled2 .ensures);
+      third = blinded-at 2 (start .args .from) _ (d .third) s z _ _ n basis (c .before .before .before .part-value3 .ensures s values) (c .add-scaled3 .ensures);
     }
 
 pub three-at-spec : {M : Type 1} → statement M
