@@ -4,7 +4,7 @@
 It shares nothing with the second program in host/rust, neither code nor method: rows are summed first, the three
 sums interpolated by Newton's divided differences, the product kept whole and divided by long division, the row
 check read off the remainder. It is the second opinion on the stored vectors, and on any number of generated jobs
-(some minutes): jobs_against tests/vectors/third.py 1000 1
+(some minutes): jobs_against 1000 1 1 tests/vectors/third.py
 """
 
 import sys

@@ -1,6 +1,6 @@
-//! jobs_against COUNT SEED COMMAND..: runs a job program (perhaps through an emulator) on the two small jobs with all
-//! their variants, on the longest file, and on COUNT generated jobs; its standard output has to be the second
-//! program's, byte for byte, and its exit status 0. Ends in 'N passed, M failed'.
+//! jobs_against COUNT SEED EVERY COMMAND..: runs a job program (perhaps through an emulator) on the two small jobs with
+//! all their variants, or every EVERY-th of these, on the longest file, and on COUNT generated jobs; its standard output
+//! has to be the second program's, byte for byte, and its exit status 0. Ends in 'N passed, M failed'.
 
 use second::harness::Tally;
 use second::jobs::chance::Chance;
@@ -13,12 +13,14 @@ use std::thread;
 
 fn main() -> ExitCode {
     let words: Vec<String> = std::env::args().skip(1).collect();
-    if let [count, seed, command @ ..] = &words[..] {
-        if let (Ok(count), Ok(seed), false) = (count.parse(), seed.parse(), command.is_empty()) {
-            return compare_all(command, count, seed);
+    if let [count, seed, every, command @ ..] = &words[..] {
+        if let (Ok(count), Ok(seed), Ok(every @ 1..), false) =
+            (count.parse(), seed.parse(), every.parse(), command.is_empty())
+        {
+            return compare_all(command, all_runs(count, seed, every));
         }
     }
-    eprintln!("usage: jobs_against COUNT SEED COMMAND..");
+    eprintln!("usage: jobs_against COUNT SEED EVERY COMMAND..");
     ExitCode::from(2)
 }
 
@@ -29,9 +31,9 @@ struct Run {
     piece: usize,
 }
 
-fn all_runs(count: u64, seed: u64) -> impl Iterator<Item = Run> {
+fn all_runs(count: u64, seed: u64, every: usize) -> impl Iterator<Item = Run> + Send {
     const WHOLE: usize = 1 << 20;
-    let small = systematic::jobs().into_iter().enumerate();
+    let small = systematic::jobs().into_iter().enumerate().step_by(every);
     let small = small.map(|(index, bytes)| Run { name: format!("small job {index}"), bytes, piece: WHOLE });
     let longest = to_bytes(&valid::full(&mut Chance::new(seed, 0)).job_words());
     let longest = Run { name: "longest file".to_string(), bytes: longest, piece: WHOLE };
@@ -44,8 +46,8 @@ fn all_runs(count: u64, seed: u64) -> impl Iterator<Item = Run> {
 }
 
 /// As many runs at a time as there are processors: an emulator takes long to start.
-fn compare_all(command: &[String], count: u64, seed: u64) -> ExitCode {
-    let (runs, tally) = (Mutex::new(all_runs(count, seed)), Mutex::new(Tally::default()));
+fn compare_all(command: &[String], runs: impl Iterator<Item = Run> + Send) -> ExitCode {
+    let (runs, tally) = (Mutex::new(runs), Mutex::new(Tally::default()));
     let next = || runs.lock().expect("no holder panics").next();
     let work = || {
         while let Some(run) = next() {
