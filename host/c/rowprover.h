@@ -6,7 +6,7 @@
  *
  * Buffers: they are lent for the call alone and not kept. No alignment is needed. The output must not overlap the
  * input; two inputs may overlap. For a length of 0 pass any pointer but NULL: nothing is read or written through it.
- * All words inside the bytes are u32, least significant byte first. A call takes about 42 KiB of stack.
+ * All words inside the bytes are u32, least significant byte first. A call takes about 44 KiB of stack.
  *
  * What these answers prove to nobody by themselves: they bind no one without a commitment layer above them, and one
  * triple of blinders must serve one point only. */
