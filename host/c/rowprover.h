@@ -1,6 +1,6 @@
 /* The row prover's two exported functions: answers for the box, check for the tablet.
  *
- * Link with libhost.a (x86-64). Both functions are pure: they keep no state, allocate nothing, read only the bytes
+ * Link with librowprover.a (x86-64). Both functions are pure: they keep no state, allocate nothing, read only the bytes
  * lent to them, and may be called from several threads at once. Any bytes are allowed as input; bad ones are refused
  * with a number and a place.
  *

@@ -12,7 +12,7 @@ use Rattle.field.specs.Field.{p}
 use Rattle.basis.specs.BasisAt.{BasisAt}
 use Rattle.circuit.specs.Circuit.{rows, publics}
 use Rattle.circuit.specs.Reader.{circuitVerdict}
-use Rattle.parts.specs.PartAt.{PartAt}
+use Rattle.evaluation.specs.Values.{PartAt}
 use Rattle.qap.specs.declared.FourAnswers.{FourAnswers}
 use Rattle.qap.specs.Polynomials.{PublicPart, targetOf}
 use Rattle.qap.specs.Answers.{AnswersAgree}

@@ -61,9 +61,9 @@ fn agree_cut(
     let q = circuit::counts::publics_of(circuit);
     let inverses = field::table::inverses();
     let z = basis::basis_values(b, s, &inverses);
-    let first = parts::part_value(circuit, 0, section, 0, q, b, y);
-    let second = parts::part_value(circuit, 1, section, 0, q, b, y);
-    let third = parts::part_value(circuit, 2, section, 0, q, b, y);
+    let first = evaluation::part_value(circuit, 0, section, 0, q, b, y);
+    let second = evaluation::part_value(circuit, 1, section, 0, q, b, y);
+    let third = evaluation::part_value(circuit, 2, section, 0, q, b, y);
     words_agree(r, first, second, third, z)
 }
 

@@ -1,15 +1,13 @@
 -- The four numbers that the box computes are the four answers: three private parts with blinders, and (u v − t) / Z(s),
 -- which is H'(s) because A'(s) B'(s) − C'(s) = Z(s) H'(s) and Z(s) is not 0. Document 01, "Query and checks".
-use mathlib.Core.Path.{_≡_, refl, _∙_}
+use mathlib.Core.Path.{_≡_}
 use mathlib.Core.List.{List}
 use Prim.Native.Nat.{ℕ, _+_, _*_, _%_, _<_}
 use native.Mathlib.Nat.{mod-lt}
 use native.Mathlib.Omega.{arith}
-use lib.ListN.{length, getD}
 use Rattle.algebra.specs.Congruence.{_≈⟨_⟩_}
 use Rattle.algebra.specs.Polynomial.{value}
 use Rattle.algebra.specs.Points.{Distinct}
-use Rattle.algebra.specs.Combination.{total}
 use Rattle.algebra.specs.Blinding.{blinded}
 use Rattle.algebra.proofs.Congruence.{≈-sym, ≈-trans, ≈-plus, ≈-times, ≈-product, ≈-reduced, ≈-words, by}
 use Rattle.algebra.proofs.Inverse.{cancel}
@@ -17,19 +15,15 @@ use Rattle.algebra.proofs.Polynomial.{value-sum, value-multiple}
 use Rattle.algebra.proofs.Blinding.{divides-value}
 use Rattle.field.specs.Field.{p}
 use Rattle.field.proofs.PrimeField.{p-prime, p-positive}
-use Rattle.basis.specs.BasisAt.{BasisAt}
-use Rattle.circuit.specs.Circuit.{rows, publics, columns, points}
-use Rattle.circuit.specs.WellFormed.{Formed}
-use Rattle.rows.specs.Rows.{RowsHold, rowSums}
+use Rattle.circuit.specs.Circuit.{publics, columns, points}
+use Rattle.rows.specs.Rows.{RowsHold}
 use Rattle.qap.specs.declared.Blinders.{Blinders}
 use Rattle.qap.specs.Polynomials.{targetOf, IsQuotient}
 use Rattle.qap.specs.Answers.{IsAnswers}
 use Rattle.qap.proofs.Parts.{part-exists}
 use Rattle.qap.proofs.Quotients.{quotient-exists}
-use Rattle.answers.specs.declared.point.Three.{Three}
-use Rattle.parts.specs.PartAt.{PartAt}
-use Rattle.parts.proofs.PartValues.{part-at}
-use Rattle.answers.specs.Three.{BlindedAt, ThreeAt}
+use Rattle.evaluation.specs.declared.Three.{Three}
+use Rattle.evaluation.specs.Values.{ThreeAt}
 
 module _ (c a : List ℕ) (distinct : Distinct p (points c)) (d : Blinders) (s : ℕ) (off : value (targetOf c) s ≈⟨ p ⟩ 0 → ⊥) where
   -- the word of A + d Z at s is the blinded polynomial there
@@ -72,17 +66,3 @@ module _ (c a : List ℕ) (distinct : Distinct p (points c)) (d : Blinders) (s :
         third = mine .third C private-C;
         fourth = fourth-word quotient whole is-z below e;
       }
-
--- a part's value and the target's, as words
-pub blinded-at : {c a b : List ℕ} (matrix from to d s z v r : ℕ) → to ≡ columns c → BasisAt p (rows c) s b z → PartAt c a matrix from to s v →
-    r ≡ (v + d * z) % p → BlindedAt c a matrix from d s r
-blinded-at {c} {a} matrix from to d s z v r all basis part made f is-part =
-    let one = part f (rw all is-part) in
-    made ∙ rw (one, basis .target-at)
-    (≈-plus (≈-reduced p (value f s)) (≈-times d (≈-reduced p (value (targetOf c) s))) .same)
-
--- the same over all columns, from row sums that are at hand
-pub whole-at : {c a y b : List ℕ} (matrix d s z v r : ℕ) → Formed c → BasisAt p (rows c) s b z → y ≡ rowSums c a matrix 0 (columns c) →
-    v ≡ total (λ i. getD y i 0 * getD b i 0) (length y) % p → r ≡ (v + d * z) % p → BlindedAt c a matrix 0 d s r
-whole-at {c} {a} {y} {b} matrix d s z v r formed basis sums dot made =
-    blinded-at matrix 0 (columns c) d s z v r refl basis (part-at c a matrix 0 (columns c) formed y b sums dot s (basis .values)) made

@@ -8,12 +8,11 @@ ghost use Rattle.qap.specs.declared.Blinders.{Blinders};
 ghost use Rattle.qap.specs.Answers.{IsAnswers};
 ghost use Rattle.qap.specs.Refusals.{readyVerdict, pointVerdict, answersVerdict};
 ghost use Rattle.qap.specs.Calls.{noAnswers, AnswersCall};
-ghost use Rattle.answers.specs.Three.{WholeSums, RowsAnswered};
+ghost use Rattle.rows.specs.Sums.{WholeSums};
+ghost use Rattle.answers.specs.RowsAnswered.{RowsAnswered};
 use outcome::Outcome;
 use qap::Blinders;
 use qap::FourAnswers;
-
-pub mod point;
 
 // What the answers call gives back: number and place, and the four answers, all 0 where the number is not 0.
 pub struct Answered {
@@ -55,13 +54,13 @@ fn answers_in(
     let q = circuit::counts::publics_of(circuit);
     let inverses = field::table::inverses();
     let z = basis::basis_values(w, s, &inverses);
-    let own = point::three_at(circuit, values, q, d, z, w, y);
-    let all = point::three_of(a, b, c, d, z, w);
+    let own = evaluation::three_at(circuit, values, q, d, z, w, y);
+    let all = evaluation::three_of(a, b, c, d, z, w);
     FourAnswers {
         first: own.first,
         second: own.second,
         third: own.third,
-        fourth: point::quotient_value(all, z),
+        fourth: evaluation::quotient_value(all, z),
     }
 }
 

@@ -13,8 +13,8 @@ use Rattle.algebra.specs.Points.{consecutive, Through}
 use Rattle.algebra.proofs.Consecutive.{length-consecutive}
 use Rattle.field.specs.Field.{p}
 use Rattle.circuit.specs.Circuit.{rows, columns}
-use Rattle.column.specs.Column.{coefColumn}
-use Rattle.column.proofs.ColumnLaws.{length-coefs, coefs-at}
+use Rattle.columns.specs.Coefficients.{coefColumn}
+use Rattle.columns.proofs.CoefficientLaws.{length-coefs, coefs-at}
 use Rattle.qap.specs.Polynomials.{Column}
 use Rattle.qap.specs.Calls.{AllColumns}
 use Rattle.columns.specs.Columns.{ColumnsFrom}

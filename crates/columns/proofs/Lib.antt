@@ -1,2 +1,3 @@
+pub mod CoefficientLaws
 pub mod ColumnLaws
 pub mod PartLaws

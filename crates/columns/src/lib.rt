@@ -3,7 +3,8 @@
 ghost use Rattle.qap.specs.Calls.{ColumnCall, ColumnsCall};
 use outcome::Outcome;
 
-pub mod matrix;
+mod coefficients;
+mod matrix;
 
 // One column of matrix 0, 1 or 2, into as many words as there are rows.
 pub fn column(circuit: &[u32], matrix: u32, column: u32, out: &mut [u32]) -> Outcome

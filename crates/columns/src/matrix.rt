@@ -85,7 +85,7 @@ fn write_column(circuit: &[u32], matrix: usize, j: u32, z: &[u32], weights: &[u3
 {
     let m = out.len();
     let mut values = room();
-    column::column_values(circuit, matrix, j, &mut values[..m]);
+    crate::coefficients::column_values(circuit, matrix, j, &mut values[..m]);
     basis::column_through(out, &values[..m], z, weights);
 }
 

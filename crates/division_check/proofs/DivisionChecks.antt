@@ -21,8 +21,8 @@ use Rattle.qap.specs.Polynomials.{targetOf}
 use Rattle.qap.specs.Answers.{CandidateDivides}
 use Rattle.qap.specs.Refusals.{checkDivisionVerdict}
 use Rattle.qap.proofs.Settings.{few-rows, distinct-points, DivisionReady, division-ready}
-use Rattle.room.specs.Sides.{Sides, Given}
-use Rattle.room.proofs.QuotientLaws.{candidate-rooms, rooms-candidate}
+use Rattle.dividend.specs.Sides.{Sides, Given}
+use Rattle.dividend.proofs.QuotientLaws.{candidate-rooms, rooms-candidate}
 use Rattle.refusals.specs.Decides.{Decides}
 use Rattle.refusals.proofs.Deciding.{decides-other}
 

@@ -60,7 +60,7 @@ fn divides_cut(
     let m = circuit::counts::rows_of(circuit);
     let inverses = field::table::inverses();
     poly::target(z);
-    let left = room::sides(circuit, values, d, m, z, &inverses);
+    let left = dividend::sides(circuit, values, d, m, z, &inverses);
     let right = poly::product(z, candidate);
     same(&left, &right)
 }

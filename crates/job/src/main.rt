@@ -1,5 +1,5 @@
 // The job program: a job file on standard input, its lines on standard output. Document 01, "The program and one run whole".
-// What is printed is decided by `lines::run`; where the input could not be read to its end, nothing is.
+// What is printed is decided by `printed_job::run`; where the input could not be read to its end, nothing is.
 use libc::STDIN_FILENO;
 use libc::STDOUT_FILENO;
 
@@ -13,7 +13,7 @@ fn ended() -> bool {
 }
 
 fn print(input: &[u8]) {
-    let printed = lines::run(input);
+    let printed = printed_job::run(input);
     let text = printed.bytes;
     let size = printed.size;
     io::write_all(STDOUT_FILENO, &text[..size]);

@@ -33,8 +33,8 @@ fn quotient_in(circuit: &[u32], values: &[u32], d: Blinders, z: &mut [u32], out:
     let m = circuit::counts::rows_of(circuit);
     let inverses = field::table::inverses();
     poly::target(z);
-    let work = room::sides(circuit, values, d, m, z, &inverses);
-    room::take_quotient(work, m, z, out);
+    let work = dividend::sides(circuit, values, d, m, z, &inverses);
+    dividend::take_quotient(work, m, z, out);
 }
 
 fn quotient_cut(circuit: &[u32], values: &[u32], d: Blinders, z: &mut [u32], out: &mut [u32])

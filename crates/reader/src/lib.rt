@@ -8,6 +8,8 @@ ghost use Rattle.circuit.specs.Reader.{sectionVerdict, countsVerdict, prefixVer
 ghost use Rattle.circuit.specs.WellFormed.{Formed};
 use outcome::Outcome;
 
+mod entry;
+
 const MOST_ROWS: u32 = 256;
 
 const MOST_COLUMNS: u32 = 256;

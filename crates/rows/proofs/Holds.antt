@@ -79,4 +79,4 @@ module _ (c a : List ℕ) where
 -- any two results that the contract of rows_verdict admits are equal
 pub one-result : {c w a b d a′ b′ d′ : List ℕ} {r r′ : Outcome} → RowsRead c w a b d r → RowsRead c w a′ b′ d′ r′ →
     (a ≡ a′) × (b ≡ b′) × (d ≡ d′) × (r ≡ r′)
-one-result h k = (h .sums-a ∙ sym (k .sums-a), h .sums-b ∙ sym (k .sums-b), h .sums-c ∙ sym (k .sums-c), h .outcome ∙ sym (k .outcome))
+one-result h k = (h .sums .first ∙ sym (k .sums .first), h .sums .second ∙ sym (k .sums .second), h .sums .third ∙ sym (k .sums .third), h .outcome ∙ sym (k .outcome))

@@ -42,9 +42,13 @@ withEntry c s a from to e xs =
 unfoldable pub sumsVerdict : List ℕ → List ℕ → List ℕ → Outcome
 sumsVerdict a b c = first (λ i. require (eqb (word a i * word b i % p) (word c i)) 10 (suc i)) (length a)
 
--- three lists of row sums made, and the verdict over them
+-- three lists of row sums over all columns, of A, B and C
+pub record WholeSums (c w a b d : List ℕ) : Type 0 where
+  pub first : a ≡ rowSums c w 0 0 (columns c)
+  pub second : b ≡ rowSums c w 1 0 (columns c)
+  pub third : d ≡ rowSums c w 2 0 (columns c)
+
+-- the lists made, and the verdict over them
 pub record RowsRead (c w a b d : List ℕ) (r : Outcome) : Type 0 where
-  pub sums-a : a ≡ rowSums c w 0 0 (columns c)
-  pub sums-b : b ≡ rowSums c w 1 0 (columns c)
-  pub sums-c : d ≡ rowSums c w 2 0 (columns c)
+  pub sums : WholeSums c w a b d
   pub outcome : r ≡ rowsVerdict c w

@@ -35,7 +35,7 @@ accepted c κs =
     let pre = past .before .before .before .before .before .before .before .before .before .before .before .before .before .before .before .before .before .before .before .pre in (
       (
         accepted-both (pre .0 .0) (accepted-both (pre .0 .1) (is-accepted (read .outcome) (past .if1 .left))),
-        record { first = read .sums-a; second = read .sums-b; third = read .sums-c },
+        read .sums,
       ),
       (pre .1 .3, pre .1 .4),
     )

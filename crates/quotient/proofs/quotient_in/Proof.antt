@@ -17,7 +17,7 @@ use Rattle.circuit.proofs.Formed.{circuit-formed}
 use Rattle.assignment.proofs.Accepted.{assignment-formed}
 use Rattle.rows.proofs.Holds.{accepted-holds}
 use Rattle.qap.proofs.Settings.{QuotientReady, quotient-ready, distinct-points}
-use Rattle.room.proofs.QuotientLaws.{quotient-law}
+use Rattle.dividend.proofs.QuotientLaws.{quotient-law}
 use Rattle.quotient.proofs.quotient_in.Statement.{statement}
 use Rattle.quotient.proofs.quotient_in.Tie as tie
 

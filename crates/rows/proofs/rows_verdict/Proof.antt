@@ -10,7 +10,7 @@ returns c =
     let a = c .before .before .before .before .before .before .before .before .before .before .before .before .before .before .whole-sums .ensures in
     let b = c .before .before .before .before .before .before .before .before .before .before .whole-sums2 .ensures in
     let d = c .before .before .before .before .before .before .whole-sums3 .ensures in
-    record { sums-a = a; sums-b = b; sums-c = d; outcome = rw (a, b, d) at (c .sums-verdict .ensures) ∙ sums-rows _ _ }
+    record { sums = record { first = a; second = b; third = d }; outcome = rw (a, b, d) at (c .sums-verdict .ensures) ∙ sums-rows _ _ }
 
 pub rows-verdict-spec : {M : Type 1} → statement M
 rows-verdict-spec =

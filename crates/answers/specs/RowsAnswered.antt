@@ -1,0 +1,16 @@
+-- What the answers call gives once the checks before 10 have passed. Document 01, "Query and checks".
+use mathlib.Core.Path.{_≡_}
+use mathlib.Core.List.{List}
+use Prim.Native.Nat.{ℕ}
+use Rattle.outcome.specs.declared.Outcome.{Outcome}
+use Rattle.outcome.specs.Verdict.{Accepted, Refused}
+use Rattle.rows.specs.Rows.{rowsVerdict}
+use Rattle.qap.specs.declared.Blinders.{Blinders}
+use Rattle.qap.specs.declared.FourAnswers.{FourAnswers}
+use Rattle.qap.specs.Answers.{IsAnswers}
+use Rattle.qap.specs.Calls.{noAnswers}
+
+pub record RowsAnswered (c a : List ℕ) (d : Blinders) (s : ℕ) (o : Outcome) (r : FourAnswers) : Type 0 where
+  pub number-and-place : o ≡ rowsVerdict c a
+  pub done : Accepted (rowsVerdict c a) → IsAnswers c a d s r
+  pub none : Refused (rowsVerdict c a) → r ≡ noAnswers

@@ -1,0 +1,118 @@
+-- From the words of A', B', C' in the room to the quotient of the definition, and to what the division check compares.
+-- Document 01, "Polynomials".
+use mathlib.Core.Path.{_≡_}
+use mathlib.Core.List.{List}
+use Prim.Native.Nat.{ℕ, suc, _<_, _≤_}
+use native.Mathlib.Omega.{arith}
+use lib.ListN.{length, getD}
+use Rattle.algebra.specs.Congruence.{_≈⟨_⟩_}
+use Rattle.algebra.specs.Polynomial.{value, product, reduced}
+use Rattle.algebra.specs.Points.{Distinct}
+use Rattle.algebra.specs.Blinding.{Holds, Divides}
+use Rattle.algebra.proofs.Congruence.{≈-sym, ≈-trans, ≈-plus, ≈-times, ≈-product, by}
+use Rattle.algebra.proofs.Polynomial.{value-sum, value-multiple}
+use Rattle.algebra.proofs.Same.{≋-sym, ≋-value}
+use Rattle.algebra.proofs.Consecutive.{length-consecutive}
+use Rattle.algebra.proofs.Target.{length-target, target-zero}
+use Rattle.algebra.proofs.Blinding.{divides-alike}
+use Rattle.field.specs.Field.{p}
+use Rattle.field.proofs.PrimeField.{p-positive}
+use Rattle.poly.specs.Product.{within}
+use Rattle.circuit.specs.Circuit.{rows, columns, points}
+use Rattle.rows.specs.Rows.{RowsHold, wholeSum}
+use Rattle.qap.specs.declared.Blinders.{Blinders}
+use Rattle.qap.specs.Polynomials.{Whole, targetOf, IsQuotient}
+use Rattle.qap.specs.Answers.{CandidateDivides}
+use Rattle.qap.proofs.Parts.{through-part, part-unique}
+use Rattle.qap.proofs.Quotients.{candidate-quotient}
+use Rattle.dividend.specs.Room.{leftSide, roomQuotient}
+use Rattle.dividend.specs.Blinded.{BlindedThrough}
+use Rattle.dividend.proofs.RoomLaws.{room-quotient, room-quotient-size, room-quotient-words, rooms-equal, equal-rooms}
+
+-- the same list goes through congruent values
+pub blinded-alike : {xs : List ℕ} {y z : ℕ → ℕ} {d : ℕ} {g : List ℕ} → ((i : ℕ) → i < length xs → y i ≈⟨ p ⟩ z i) → BlindedThrough xs y d g →
+    BlindedThrough xs z d g
+blinded-alike same b = record {
+  plain = b .plain;
+  through = record {
+    size = b .through .size;
+    words = b .through .words;
+    takes = λ i l. ≈-trans (b .through .takes i l) (same i l);
+  };
+  size = b .size;
+  words = b .words;
+  same = b .same;
+}
+
+-- at a point of the target a multiple of it does not count
+at-points : {xs : List ℕ} {y : ℕ → ℕ} {d : ℕ} {g : List ℕ} → BlindedThrough xs y d g → (i : ℕ) → i < length xs → value g (getD xs i 0) ≈⟨ p ⟩ y i
+at-points {xs} {y} {d} {g} b i l =
+    let x = getD xs i 0 in
+    let zero = target-zero p-positive xs .zero-at i l in
+    ≈-trans (≋-value (b .same) x)
+    (rw (value-sum, value-multiple) (by (≈-plus (b .through .takes i l) (≈-times d zero)) (omega arith)))
+
+module _ (c a : List ℕ) (few : rows c ≤ 256) (distinct : Distinct p (points c)) (d : Blinders) {f g k : List ℕ}
+    (bf : BlindedThrough (points c) (λ i. wholeSum c a 0 (suc i)) (d .first) f)
+    (bg : BlindedThrough (points c) (λ i. wholeSum c a 1 (suc i)) (d .second) g)
+    (bk : BlindedThrough (points c) (λ i. wholeSum c a 2 (suc i)) (d .third) k) where
+  points-count : length (points c) ≡ rows c
+  points-count = length-consecutive 1 (rows c)
+
+  size-f : length f ≡ suc (rows c)
+  size-f = omega (arith, bf .size, points-count)
+
+  size-g : length g ≡ suc (rows c)
+  size-g = omega (arith, bg .size, points-count)
+
+  size-k : length k ≡ suc (rows c)
+  size-k = omega (arith, bk .size, points-count)
+
+  whole-A : Whole c a 0 (bf .plain)
+  whole-A = through-part c a 0 0 (columns c) distinct (bf .through)
+
+  whole-B : Whole c a 1 (bg .plain)
+  whole-B = through-part c a 1 0 (columns c) distinct (bg .through)
+
+  whole-C : Whole c a 2 (bk .plain)
+  whole-C = through-part c a 2 0 (columns c) distinct (bk .through)
+
+  -- what divides A'B' − C' is a candidate that the division check accepts
+  candidate : {h : List ℕ} → Divides p (points c) f g k h → CandidateDivides c a d h
+  candidate divides = record {
+    A = bf .plain;
+    B = bg .plain;
+    C = bk .plain;
+    whole-A = whole-A;
+    whole-B = whole-B;
+    whole-C = whole-C;
+    divides = divides-alike (bf .same) (bg .same) (bk .same) divides;
+  }
+
+  pub quotient-law : RowsHold c a → IsQuotient c a d (roomQuotient (rows c) (leftSide f g k))
+  quotient-law hold =
+      let holds : Holds p (points c) f g k = record {
+        at-each = λ i l.
+            ≈-trans (≈-product (at-points bf i l) (at-points bg i l))
+            (≈-trans (hold .at-row (suc i) (omega arith) (omega (arith, points-count)) .equal) (≈-sym (at-points bk i l)));
+      } in
+      candidate-quotient c a distinct d (omega (arith, room-quotient-size (rows c) few f g k size-f size-g size-k, points-count))
+      (room-quotient-words (rows c) few f g k size-f size-g size-k)
+      (candidate (room-quotient (rows c) few f g k size-f size-g size-k holds))
+
+  module _ (h : List ℕ) (size-h : length h ≡ suc (rows c)) where
+    size-z : length (targetOf c) ≡ suc (rows c)
+    size-z = omega (arith, length-target p (points c), points-count)
+
+    -- a candidate divides exactly where Z times it fills a room with the same words
+    pub candidate-rooms : CandidateDivides c a d h → leftSide f g k ≡ within 513 (reduced p (product (targetOf c) h))
+    candidate-rooms q =
+        let same-A = part-unique c a 0 0 (columns c) distinct (q .whole-A) whole-A in
+        let same-B = part-unique c a 1 0 (columns c) distinct (q .whole-B) whole-B in
+        let same-C = part-unique c a 2 0 (columns c) distinct (q .whole-C) whole-C in
+        let divides = rw (same-A, same-B, same-C) at (q .divides) in
+        equal-rooms (rows c) few f g k size-f size-g size-k (targetOf c) h size-z size-h
+        (divides-alike (≋-sym (bf .same)) (≋-sym (bg .same)) (≋-sym (bk .same)) divides .equal)
+
+    pub rooms-candidate : leftSide f g k ≡ within 513 (reduced p (product (targetOf c) h)) → CandidateDivides c a d h
+    rooms-candidate e = candidate (record { equal = rooms-equal (rows c) few f g k size-f size-g size-k (targetOf c) h size-z size-h e })

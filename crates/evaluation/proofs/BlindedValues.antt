@@ -1,0 +1,30 @@
+-- A part's value and d times the target's, as words, are the value with its blinder (document 01, "Query and checks").
+use mathlib.Core.Path.{_≡_, refl, _∙_}
+use mathlib.Core.List.{List}
+use Prim.Native.Nat.{ℕ, _+_, _*_, _%_}
+use lib.ListN.{length, getD}
+use Rattle.algebra.specs.Polynomial.{value}
+use Rattle.algebra.specs.Combination.{total}
+use Rattle.algebra.proofs.Congruence.{≈-plus, ≈-times, ≈-reduced}
+use Rattle.field.specs.Field.{p}
+use Rattle.basis.specs.BasisAt.{BasisAt}
+use Rattle.circuit.specs.Circuit.{rows, columns}
+use Rattle.circuit.specs.WellFormed.{Formed}
+use Rattle.rows.specs.Rows.{rowSums}
+use Rattle.qap.specs.Polynomials.{targetOf}
+use Rattle.evaluation.specs.Values.{PartAt, BlindedAt}
+use Rattle.evaluation.proofs.PartValues.{part-at}
+
+-- a part's value and the target's, as words
+pub blinded-at : {c a b : List ℕ} (matrix from to d s z v r : ℕ) → to ≡ columns c → BasisAt p (rows c) s b z → PartAt c a matrix from to s v →
+    r ≡ (v + d * z) % p → BlindedAt c a matrix from d s r
+blinded-at {c} {a} matrix from to d s z v r all basis part made f is-part =
+    let one = part f (rw all is-part) in
+    made ∙ rw (one, basis .target-at)
+    (≈-plus (≈-reduced p (value f s)) (≈-times d (≈-reduced p (value (targetOf c) s))) .same)
+
+-- the same over all columns, from row sums that are at hand
+pub whole-at : {c a y b : List ℕ} (matrix d s z v r : ℕ) → Formed c → BasisAt p (rows c) s b z → y ≡ rowSums c a matrix 0 (columns c) →
+    v ≡ total (λ i. getD y i 0 * getD b i 0) (length y) % p → r ≡ (v + d * z) % p → BlindedAt c a matrix 0 d s r
+whole-at {c} {a} {y} {b} matrix d s z v r formed basis sums dot made =
+    blinded-at matrix 0 (columns c) d s z v r refl basis (part-at c a matrix 0 (columns c) formed y b sums dot s (basis .values)) made

@@ -1,0 +1,41 @@
+-- Row sums times basis values are the value at s of the list that the part is (document 01, "Query and checks").
+use mathlib.Core.Path.{_≡_, _∙_, ap}
+use mathlib.Core.List.{List}
+use Prim.Native.Nat.{ℕ, suc, _*_, _%_, _<_}
+use native.Mathlib.Omega.{arith}
+use lib.ListN.{length, getD}
+use Rattle.algebra.specs.Points.{Through, Distinct}
+use Rattle.algebra.specs.Basis.{BasisValues}
+use Rattle.algebra.specs.Combination.{total}
+use Rattle.algebra.proofs.Congruence.{≈-sym, ≈-trans, ≈-reduced}
+use Rattle.algebra.proofs.Consecutive.{length-consecutive, distinct-consecutive}
+use Rattle.field.specs.Field.{p}
+use Rattle.field.proofs.PrimeField.{p-prime}
+use Rattle.basis.proofs.OneAnswer.{dot-value}
+use Rattle.circuit.specs.Circuit.{rows, points}
+use Rattle.circuit.specs.WellFormed.{Formed}
+use Rattle.rows.specs.Rows.{rowSum, rowSums}
+use Rattle.rows.proofs.Sums.{length-sums, sum-at}
+use Rattle.qap.specs.Polynomials.{Part}
+use Rattle.qap.proofs.Parts.{part-through}
+use Rattle.evaluation.specs.Values.{PartAt}
+
+module _ (c a : List ℕ) (matrix from to : ℕ) where
+  -- the list through the sums is the list through their remainders
+  through-sums : {f : List ℕ} → Part c a matrix from to f → Through p (points c) (λ i. getD (rowSums c a matrix from to) i 0) f
+  through-sums part =
+      let t = part-through c a matrix from to part in
+      record {
+        size = t .size;
+        words = t .words;
+        takes = λ i l.
+            let below : i < rows c = omega (arith, length-consecutive 1 (rows c)) in
+            rw (sum-at c a matrix from to i below) (≈-trans (t .takes i l) (≈-sym (≈-reduced p (rowSum c a matrix (suc i) from to))));
+      }
+
+  pub part-at : Formed c → (y b : List ℕ) {r : ℕ} → y ≡ rowSums c a matrix from to → r ≡ total (λ i. getD y i 0 * getD b i 0) (length y) % p →
+      (s : ℕ) → BasisValues p (points c) s b → PartAt c a matrix from to s r
+  part-at formed y b made e s basis f part =
+      let distinct : Distinct p (points c) = distinct-consecutive 1 (rows c) (omega (arith, formed .row-count .at-most)) in
+      dot-value p-prime distinct s y basis (rw made (through-sums part))
+      (ap length made ∙ length-sums c a matrix from to ∙ omega (arith, length-consecutive 1 (rows c))) e

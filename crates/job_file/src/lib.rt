@@ -1,0 +1,156 @@
+// Reads a job file's words: which number and place they get, and where their parts are (document 01, "The program and one run whole").
+ghost use mathlib.Core.Path.{_≡_};
+ghost use lib.ListN.{length};
+ghost use Rattle.circuit.specs.WellFormed.{Formed};
+ghost use Rattle.job_file.specs.File.{sizeVerdict, remainderVerdict};
+ghost use Rattle.job_file.specs.Parts.{blindersIn, partsVerdict, restVerdict};
+ghost use Rattle.job_file.specs.Read.{Read};
+use outcome::Outcome;
+use qap::Blinders;
+
+// The words [..circuit] are the circuit, [circuit..assignment] the assignment.
+pub struct Job {
+    pub outcome: Outcome,
+    pub circuit: usize,
+    pub assignment: usize,
+    pub d: Blinders,
+    pub s: u32,
+}
+
+const MOST_BYTES: usize = 37944;
+
+// 14 of a number of bytes.
+pub fn size_verdict(size: usize) -> Outcome
+    ensures { λ r. ⌜ r ≡ sizeVerdict size ⌝ }
+{
+    if MOST_BYTES < size {
+        return Outcome {
+            number: 14,
+            place: 0,
+        };
+    }
+    if size % 4 != 0 {
+        return Outcome {
+            number: 14,
+            place: 0,
+        };
+    }
+    Outcome {
+        number: 0,
+        place: 0,
+    }
+}
+
+// 14 of what remains after the assignment.
+fn remainder_verdict(t: &[u32]) -> Outcome
+    ensures { λ r. ⌜ r ≡ remainderVerdict (now (t .entry)) ⌝ }
+{
+    if t.len() != 6 {
+        return Outcome {
+            number: 14,
+            place: 0,
+        };
+    }
+    if t[0] != 3 {
+        return Outcome {
+            number: 14,
+            place: 0,
+        };
+    }
+    if t[4] != 1 {
+        return Outcome {
+            number: 14,
+            place: 0,
+        };
+    }
+    Outcome {
+        number: 0,
+        place: 0,
+    }
+}
+
+// The three blinders among the words that remain.
+fn blinders_in(t: &[u32]) -> Blinders
+    requires { ⌜ length (now t) ≡ 6 ⌝ }
+    ensures { λ r. ⌜ r ≡ blindersIn (now (t .entry)) ⌝ }
+{
+    Blinders {
+        first: t[1],
+        second: t[2],
+        third: t[3],
+    }
+}
+
+// The assignment, then what remains after it.
+fn parts_verdict(circuit: &[u32], values: &[u32], t: &[u32]) -> Outcome
+    requires { ⌜ Formed (now circuit) ⌝ }
+    ensures { λ r. ⌜ r ≡ partsVerdict (now (circuit .entry)) (now (values .entry)) (now (t .entry)) ⌝ }
+{
+    let assigned = assignment::assignment_words_verdict(circuit, values);
+    if assigned.number != 0 {
+        return assigned;
+    }
+    let shaped = remainder_verdict(t);
+    if shaped.number != 0 {
+        return shaped;
+    }
+    let blinded = refusals::blinders_verdict(blinders_in(t));
+    if blinded.number != 0 {
+        return blinded;
+    }
+    refusals::point_verdict(circuit, t[5])
+}
+
+// All that follows the circuit.
+fn rest_verdict(circuit: &[u32], rest: &[u32]) -> Outcome
+    requires { ⌜ Formed (now circuit) ⌝ }
+    ensures { λ r. ⌜ r ≡ restVerdict (now (circuit .entry)) (now (rest .entry)) ⌝ }
+{
+    let size = circuit::counts::columns_of(circuit) + 2;
+    if rest.len() < size {
+        return Outcome {
+            number: 6,
+            place: 0,
+        };
+    }
+    parts_verdict(circuit, &rest[..size], &rest[size..])
+}
+
+fn refused(outcome: Outcome) -> Job
+    ensures { λ r. ⌜ r ≡ Rattle.job_file.specs.Read.refused outcome ⌝ }
+{
+    Job {
+        outcome: outcome,
+        circuit: 0,
+        assignment: 0,
+        d: Blinders {
+            first: 0,
+            second: 0,
+            third: 0,
+        },
+        s: 0,
+    }
+}
+
+// The whole file by all numbers but 10, which the caller asks for. Words that are refused have no parts.
+pub fn read(words: &[u32]) -> Job
+    ensures { λ r. ⌜ Read (now (words .entry)) r ⌝ }
+{
+    let begun = reader::prefix_verdict(words);
+    if begun.number != 0 {
+        return refused(begun);
+    }
+    let end = reader::section_start(words, 3);
+    let found = rest_verdict(&words[..end], &words[end..]);
+    if found.number != 0 {
+        return refused(found);
+    }
+    let last = end + circuit::counts::columns_of(words) + 2;
+    Job {
+        outcome: found,
+        circuit: end,
+        assignment: last,
+        d: blinders_in(&words[last..]),
+        s: words[last + 5],
+    }
+}

@@ -1,0 +1,22 @@
+-- A length that was accepted is whole words, which the lent words have room for.
+use mathlib.Core.Path.{sym}
+use native.Mathlib.Omega.{arith}
+use borrow.Author.Needs.{needs}
+use lib.Seq.{length-take-le}
+use Rattle.job_file.proofs.FileLaws.{size-words}
+use Rattle.rowprover.proofs.answering.answers_cut.Statement.{statement}
+use Rattle.rowprover.proofs.answering.answers_cut.Tie as tie
+
+within : tie.Need-slice-relend-prefix-answers-lent
+within c =
+    let pre = c .before .before .before .pre in
+    omega (arith, size-words _ (pre .0) .few, pre .1)
+
+requires : tie.Need-answers-lent-requires
+requires c κs =
+    let pre = c .before .before .before .before .before .pre in
+    rw (length-take-le _ _ (within (c .before .before))) (size-words _ (pre .0) .whole)
+
+pub answers-cut-spec : {M : Type 1} → statement M
+answers-cut-spec = tie.close
+    (tie.spec within (λ c. sym (length-take-le _ _ (within (c .before)))) requires (λ c. search needs) (λ c. search needs) (λ c. search needs))

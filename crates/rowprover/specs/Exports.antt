@@ -1,0 +1,71 @@
+-- The two exported functions on byte slices: what each returns and every byte it leaves.
+-- Document 01, "The program and one run whole"; words are least significant byte first (`unpacked`, `packed`).
+use mathlib.Core.List.{List}
+use mathlib.Core.Path.{_≡_}
+use Prim.Native.Nat.{ℕ, _+_, _*_}
+use lib.Dec.{eqb}
+use lib.ListN.{length}
+use Rattle.outcome.specs.declared.Outcome.{Outcome}
+use Rattle.outcome.specs.Verdict.{require, _andThen_}
+use Rattle.packing.specs.Packing.{unpacked, packed}
+use Rattle.circuit.specs.Circuit.{word, leading}
+use Rattle.rows.specs.Rows.{rowsVerdict}
+use Rattle.qap.specs.declared.Blinders.{Blinders}
+use Rattle.qap.specs.declared.FourAnswers.{FourAnswers}
+use Rattle.qap.specs.Answers.{IsAnswers, AnswersAgree}
+use Rattle.qap.specs.Refusals.{answerWords, lengthVerdict, checkAnswersVerdict}
+use Rattle.qap.specs.Calls.{Filled, Judged, CheckAnswersCall}
+use Rattle.job_file.specs.File.{assignmentOf, blindersOf, pointOf, sizeVerdict, fileVerdict}
+
+-- one 64-bit integer: 256 times the place plus the number
+abbrev pub integer : Outcome → ℕ
+integer o = 256 * o .place + o .number
+
+-- the four answers as 16 bytes
+pub record AnswerBytes (c a : List ℕ) (d : Blinders) (s : ℕ) (bytes : List ℕ) : Type 0 where
+  pub answers : FourAnswers
+  pub are-answers : IsAnswers c a d s answers
+  pub are-bytes : bytes ≡ packed (answerWords answers)
+
+abbrev pub JobBytes : List ℕ → List ℕ → Type 0
+JobBytes w bytes = AnswerBytes (leading w) (assignmentOf w) (blindersOf w) (pointOf w) bytes
+
+-- what the words of a job say, with 8 (place 16) between 11 and 10
+unfoldable pub wordsThenSize : List ℕ → ℕ → Outcome
+wordsThenSize w size = fileVerdict w andThen lengthVerdict size 16 andThen rowsVerdict (leading w) (assignmentOf w)
+
+-- answers refuses as the program does: 14 for the length first
+unfoldable pub answersBytesVerdict : List ℕ → ℕ → Outcome
+answersBytesVerdict job size = sizeVerdict (length job) andThen wordsThenSize (unpacked job) size
+
+pub record AnswersExport (job old new : List ℕ) (result : ℕ) : Type 0 where
+  pub outcome : Outcome
+  pub filled : Filled (answersBytesVerdict job (length old)) (JobBytes (unpacked job)) old new outcome
+  pub returned : result ≡ integer outcome
+
+-- the 20 bytes of a query: the point, then the four answers
+
+abbrev pub queryPoint : List ℕ → ℕ
+queryPoint w = word w 0
+
+abbrev pub queryAnswers : List ℕ → FourAnswers
+queryAnswers w = record { first = word w 1; second = word w 2; third = word w 3; fourth = word w 4 }
+
+-- the word call, on the words of a query
+abbrev pub CheckWords : List ℕ → List ℕ → List ℕ → Outcome → Type 0
+CheckWords c b w o = CheckAnswersCall c b (queryPoint w) (queryAnswers w) o
+
+-- 14 first if one of the first two is above 37,944 bytes or no multiple of 4, or the last is not 20; then as the word call
+unfoldable pub checkBytesVerdict : List ℕ → List ℕ → List ℕ → Outcome
+checkBytesVerdict circuit section query =
+    sizeVerdict (length circuit)
+    andThen sizeVerdict (length section)
+    andThen require (eqb (length query) 20) 14 0
+    andThen checkAnswersVerdict (unpacked circuit) (unpacked section) (queryPoint (unpacked query)) (queryAnswers (unpacked query))
+
+pub record CheckExport (circuit section query : List ℕ) (result : ℕ) : Type 0 where
+  pub outcome : Outcome
+  pub judged : Judged (checkBytesVerdict circuit section query)
+      (AnswersAgree (unpacked circuit) (unpacked section) (queryPoint (unpacked query)) (queryAnswers (unpacked query)))
+      outcome
+  pub returned : result ≡ integer outcome
