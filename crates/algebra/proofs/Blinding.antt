@@ -11,7 +11,7 @@ use Rattle.algebra.specs.Polynomial.{value, sum, product, reduced, _≋�
 use Rattle.algebra.specs.Points.{Distinct, Vanishes, target}
 use Rattle.algebra.specs.Blinding.{Holds, Divides, PlainQuotient, BlindedQuotient, blinded, blindedSum}
 use Rattle.algebra.proofs.Congruence.{≈-sym, ≈-plus, ≈-times, ≈-negative, ≈-eq, ≈-words, by}
-use Rattle.algebra.proofs.Weights.{weigh, weights, by-weights, weigh-sum, weigh-multiple}
+use Rattle.algebra.proofs.Pairing.{pairing, pairings, by-pairings, pairing-sum, pairing-multiple}
 use Rattle.algebra.proofs.Inverse.{positive}
 use Rattle.algebra.proofs.Polynomial.{length-sum, length-multiple, length-product, length-reduced, value-sum, value-multiple, value-product}
 use Rattle.algebra.proofs.Same.{≋-refl, ≋-sym, ≋-trans, ≋-value, ≋-reduced, reduced-words, words-equal}
@@ -34,18 +34,18 @@ divides-alike {p} {xs} {h = h} sa sb sc e = record {
 module _ {p : ℕ} (pos : 0 < p) (xs a b c : List ℕ) where
   -- A B − C = Z H fixes H
   divides-unique : (g h : List ℕ) → Divides p xs a b c g → Divides p xs a b c h → g ≋⟨ p ⟩ h
-  divides-unique g h s t = target-cancel pos xs g h (by-weights (λ φ.
+  divides-unique g h s t = target-cancel pos xs g h (by-pairings (λ φ.
       let z = target p xs in
       let both = ≋-trans (≋-sym (s .equal)) (t .equal) in
-      let whole = simp weigh-sum at (weights (sum c (product z g)) (sum c (product z h)) both φ) in
+      let whole = simp pairing-sum at (pairings (sum c (product z g)) (sum c (product z h)) both φ) in
       by whole (omega arith)))
 
   divides-same : (g h : List ℕ) → g ≋⟨ p ⟩ h → Divides p xs a b c g → Divides p xs a b c h
   divides-same g h e s = record {
-    equal = by-weights (λ φ.
+    equal = by-pairings (λ φ.
         let z = target p xs in
-        rw weigh-sum
-        (by (≈-plus (rw weigh-sum at (weights (product a b) (sum c (product z g)) (s .equal) φ)) (weights (product z g) (product z h) (product-same z g h e) φ))
+        rw pairing-sum
+        (by (≈-plus (rw pairing-sum at (pairings (product a b) (sum c (product z g)) (s .equal) φ)) (pairings (product z g) (product z h) (product-same z g h e) φ))
         (omega arith)));
   }
 
@@ -54,11 +54,11 @@ module _ {p : ℕ} (pos : 0 < p) (xs a b c : List ℕ) (d1 d2 d3 : ℕ) where
   blinded-divides : {h : List ℕ} → Divides p xs a b c h →
       Divides p xs (blinded p xs a d1) (blinded p xs b d2) (blinded p xs c d3) (blindedSum p xs a b d1 d2 d3 h)
   blinded-divides {h} e = record {
-    equal = by-weights (λ φ.
+    equal = by-pairings (λ φ.
         let z = target p xs in
-        let plain = rw weigh-sum at (weights (product a b) (sum c (product z h)) (e .equal) φ) in
-        simp (product-sum-left, product-sum-right, product-multiple-left, product-multiple-right, product-constant, weigh-sum, weigh-multiple)
-        (by (≈-plus plain (≈-sym (≈-negative pos (d3 * weigh z φ)))) (omega (arith, ap (λ (x : ℕ). d2 * x) (product-swap a z φ)))));
+        let plain = rw pairing-sum at (pairings (product a b) (sum c (product z h)) (e .equal) φ) in
+        simp (product-sum-left, product-sum-right, product-multiple-left, product-multiple-right, product-constant, pairing-sum, pairing-multiple)
+        (by (≈-plus plain (≈-sym (≈-negative pos (d3 * pairing z φ)))) (omega (arith, ap (λ (x : ℕ). d2 * x) (product-swap a z φ)))));
   }
 
   pub blinded-formula : {h k : List ℕ} → PlainQuotient p xs a b c h → BlindedQuotient p xs a b c d1 d2 d3 k →
@@ -85,8 +85,8 @@ module _ {p : ℕ} (pos : 0 < p) (xs a b c : List ℕ) (d1 d2 d3 : ℕ) where
   }
 
 unblinded : (p : ℕ) (xs a b h : List ℕ) → blindedSum p xs a b 0 0 0 h ≋⟨ p ⟩ h
-unfolding weigh
-unblinded p xs a b h = by-weights (λ φ. ≈-eq p (simp (weigh-sum, weigh-multiple) (omega arith)))
+unfolding pairing
+unblinded p xs a b h = by-pairings (λ φ. ≈-eq p (simp (pairing-sum, pairing-multiple) (omega arith)))
 
 length-square : (a b : List ℕ) → length a ≡ length b → length (product a b) ≡ length a + length b - 1
 unfolding product

@@ -8,7 +8,7 @@ use Rattle.algebra.specs.Congruence.{_≈⟨_⟩_}
 use Rattle.algebra.specs.Polynomial.{value, sum, multiple, _≋⟨_⟩_}
 use Rattle.algebra.proofs.Congruence.{≈-plus, ≈-sym, ≈-negative, by}
 use Rattle.algebra.proofs.Polynomial.{sum-nil, length-sum, length-multiple, value-sum, value-multiple}
-use Rattle.algebra.proofs.Weights.{weigh, weights, by-weights, weigh-sum, weigh-multiple}
+use Rattle.algebra.proofs.Pairing.{pairing, pairings, by-pairings, pairing-sum, pairing-multiple}
 
 pub difference : ℕ → List ℕ → List ℕ → List ℕ
 difference p f g = sum f (multiple (p - 1) g)
@@ -21,18 +21,18 @@ pub value-difference : (p : ℕ) (f g : List ℕ) (s : ℕ) → value (differenc
 unfolding difference
 value-difference p f g s = simp (value-sum, value-multiple)
 
-pub weigh-difference : (p : ℕ) (f g : List ℕ) (φ : ℕ → ℕ) → weigh (difference p f g) φ ≡ weigh f φ + (p - 1) * weigh g φ
+pub pairing-difference : (p : ℕ) (f g : List ℕ) (φ : ℕ → ℕ) → pairing (difference p f g) φ ≡ pairing f φ + (p - 1) * pairing g φ
 unfolding difference
-weigh-difference p f g φ = simp (weigh-sum, weigh-multiple)
+pairing-difference p f g φ = simp (pairing-sum, pairing-multiple)
 
 module _ {p : ℕ} (positive : 0 < p) (f g : List ℕ) where
   pub difference-value : (s : ℕ) → value f s ≈⟨ p ⟩ value g s → value (difference p f g) s ≈⟨ p ⟩ 0
   difference-value s h = rw value-difference (by (≈-plus h (≈-negative positive (value g s))) (omega arith))
 
   pub difference-sum : {h : List ℕ} → difference p f g ≋⟨ p ⟩ h → f ≋⟨ p ⟩ sum g h
-  difference-sum {h} e = by-weights (λ φ.
-      let d : weigh f φ + (p - 1) * weigh g φ ≈⟨ p ⟩ weigh h φ = rw weigh-difference at (weights (difference p f g) h e φ) in
-      rw (weigh-sum g h φ) (by (≈-plus d (≈-sym (≈-negative positive (weigh g φ)))) (omega arith)))
+  difference-sum {h} e = by-pairings (λ φ.
+      let d : pairing f φ + (p - 1) * pairing g φ ≈⟨ p ⟩ pairing h φ = rw pairing-difference at (pairings (difference p f g) h e φ) in
+      rw (pairing-sum g h φ) (by (≈-plus d (≈-sym (≈-negative positive (pairing g φ)))) (omega arith)))
 
   pub difference-zero : difference p f g ≋⟨ p ⟩ [] → f ≋⟨ p ⟩ g
   difference-zero e = rw sum-nil at (difference-sum e)

@@ -14,19 +14,19 @@ use Rattle.algebra.specs.Points.{Distinct, Vanishes, factor, target, Quo
 use Rattle.algebra.proofs.Congruence.{≈-sym, ≈-trans, ≈-plus, ≈-times, ≈-negative, ≈-eq, by}
 use Rattle.algebra.proofs.Inverse.{positive}
 use Rattle.algebra.proofs.Polynomial.{length-reduced, value-product}
-use Rattle.algebra.proofs.Weights.{weigh, weights, by-weights, weigh-product}
+use Rattle.algebra.proofs.Pairing.{pairing, pairings, by-pairings, pairing-product}
 use Rattle.algebra.proofs.Same.{≋-refl, ≋-sym, ≋-trans, ≋-value, ≋-reduced, reduced-words, words-equal}
-use Rattle.algebra.proofs.Difference.{difference, weigh-difference, difference-zero}
-use Rattle.algebra.proofs.Roots.{length-divided, divided-weigh, vanishes-divided, distinct-rest}
+use Rattle.algebra.proofs.Difference.{difference, pairing-difference, difference-zero}
+use Rattle.algebra.proofs.Roots.{length-divided, divided-pairing, vanishes-divided, distinct-rest}
 use Rattle.algebra.proofs.Target.{target-zero}
 
--- times X + c, in weights
-pub weigh-factor : (c : ℕ) (f : List ℕ) (φ : ℕ → ℕ) → weigh (product (c ∷ 1 ∷ []) f) φ ≡ c * weigh f φ + weigh f (λ k. φ (suc k))
-unfolding weigh
-weigh-factor c f φ = simp (weigh-product, zero-add, one-add) (omega arith)
+-- times X + c, paired
+pub pairing-factor : (c : ℕ) (f : List ℕ) (φ : ℕ → ℕ) → pairing (product (c ∷ 1 ∷ []) f) φ ≡ c * pairing f φ + pairing f (λ k. φ (suc k))
+unfolding pairing
+pairing-factor c f φ = simp (pairing-product, zero-add, one-add) (omega arith)
 
 pub factor-same : {p : ℕ} (c : ℕ) (f g : List ℕ) → f ≋⟨ p ⟩ g → product (c ∷ 1 ∷ []) f ≋⟨ p ⟩ product (c ∷ 1 ∷ []) g
-factor-same c f g h = by-weights (λ φ. rw (weigh-factor c f φ, weigh-factor c g φ) (≈-plus (≈-times c (weights f g h φ)) (weights f g h (λ k. φ (suc k)))))
+factor-same c f g h = by-pairings (λ φ. rw (pairing-factor c f φ, pairing-factor c g φ) (≈-plus (≈-times c (pairings f g h φ)) (pairings f g h (λ k. φ (suc k)))))
 
 -- φ one place later
 later : (ℕ → ℕ) → ℕ → ℕ
@@ -34,48 +34,48 @@ later φ zero = 0
 later φ (suc k) = φ k
 
 -- a constant plus (X + c) q is 0 only where q is 0
-factor-zero : {p : ℕ} (c d : ℕ) (q : List ℕ) → ((φ : ℕ → ℕ) → d * φ 0 + (c * weigh q φ + weigh q (λ k. φ (suc k))) ≈⟨ p ⟩ 0) → q ≋⟨ p ⟩ []
-unfolding weigh later
+factor-zero : {p : ℕ} (c d : ℕ) (q : List ℕ) → ((φ : ℕ → ℕ) → d * φ 0 + (c * pairing q φ + pairing q (λ k. φ (suc k))) ≈⟨ p ⟩ 0) → q ≋⟨ p ⟩ []
+unfolding pairing later
 factor-zero {p} c d [] h = ≋-refl p []
 factor-zero {p} c d (e ∷ q) h = record { coefficient = at (factor-zero c e q next) }
   where
-    next : (φ : ℕ → ℕ) → e * φ 0 + (c * weigh q φ + weigh q (λ k. φ (suc k))) ≈⟨ p ⟩ 0
+    next : (φ : ℕ → ℕ) → e * φ 0 + (c * pairing q φ + pairing q (λ k. φ (suc k))) ≈⟨ p ⟩ 0
     next φ = by (h (later φ)) (omega arith)
 
     at : q ≋⟨ p ⟩ [] → (k : ℕ) → getD (e ∷ q) k 0 ≈⟨ p ⟩ getD [] k 0
     at rest zero =
-        let zero-q = weights q [] rest (λ k. 1) in
+        let zero-q = pairings q [] rest (λ k. 1) in
         by (≈-plus (≈-plus (next (λ k. 1)) (≈-times c (≈-sym zero-q))) (≈-sym zero-q)) (omega arith)
     at rest (suc k) = rest .coefficient k
 
 pub factor-cancel : {p : ℕ} → 0 < p → (c : ℕ) (f g : List ℕ) → product (c ∷ 1 ∷ []) f ≋⟨ p ⟩ product (c ∷ 1 ∷ []) g → f ≋⟨ p ⟩ g
 factor-cancel {p} pos c f g h = difference-zero pos f g (factor-zero c 0 (difference p f g) (λ φ.
     let later : ℕ → ℕ = λ k. φ (suc k) in
-    let right = c * weigh g φ + weigh g later in
-    let same = rw (weigh-factor c f φ, weigh-factor c g φ) at (weights (product (c ∷ 1 ∷ []) f) (product (c ∷ 1 ∷ []) g) h φ) in
-    rw (weigh-difference p f g φ, weigh-difference p f g later) (by (≈-plus same (≈-negative pos right)) (omega arith))))
+    let right = c * pairing g φ + pairing g later in
+    let same = rw (pairing-factor c f φ, pairing-factor c g φ) at (pairings (product (c ∷ 1 ∷ []) f) (product (c ∷ 1 ∷ []) g) h φ) in
+    rw (pairing-difference p f g φ, pairing-difference p f g later) (by (≈-plus same (≈-negative pos right)) (omega arith))))
 
 -- the target times h, one factor at a time
 target-product : (p x : ℕ) (xs h : List ℕ) → product (target p (x ∷ xs)) h ≋⟨ p ⟩ product (factor p x) (product (target p xs) h)
 unfolding target
-target-product p x xs h = by-weights (λ φ.
+target-product p x xs h = by-pairings (λ φ.
     let z = target p xs in
     let t = product (factor p x) z in
-    let ψ : ℕ → ℕ = λ i. weigh h (λ j. φ (i + j)) in
-    rw (weigh-product (reduced p t) h φ, weigh-factor (negative p x) (product z h) φ)
-    (≈-trans (weights (reduced p t) t (≋-reduced p t) ψ)
-    (≈-eq p (simp (weigh-factor (negative p x) z ψ, weigh-product z h, suc-add)))))
+    let ψ : ℕ → ℕ = λ i. pairing h (λ j. φ (i + j)) in
+    rw (pairing-product (reduced p t) h φ, pairing-factor (negative p x) (product z h) φ)
+    (≈-trans (pairings (reduced p t) t (≋-reduced p t) ψ)
+    (≈-eq p (simp (pairing-factor (negative p x) z ψ, pairing-product z h, suc-add)))))
 
 -- what is 0 at x is X − x times its quotient
 pub divided-exact : {p : ℕ} → 0 < p → (x : ℕ) (f : List ℕ) → value f x ≈⟨ p ⟩ 0 → f ≋⟨ p ⟩ product (factor p x) (divided x f)
-divided-exact {p} pos x f h = by-weights (λ φ.
+divided-exact {p} pos x f h = by-pairings (λ φ.
     let q = divided x f in
-    rw (weigh-factor (negative p x) q φ)
-    (by (≈-plus (≈-times (φ 0) h) (≈-sym (≈-negative pos (x * weigh q φ)))) (omega (arith, divided-weigh x f φ))))
+    rw (pairing-factor (negative p x) q φ)
+    (by (≈-plus (≈-times (φ 0) h) (≈-sym (≈-negative pos (x * pairing q φ)))) (omega (arith, divided-pairing x f φ))))
 
 target-none : (p : ℕ) (h : List ℕ) → product (target p []) h ≋⟨ p ⟩ h
-unfolding target weigh
-target-none p h = by-weights (λ φ. ≈-eq p (simp (weigh-product, zero-add) (omega arith)))
+unfolding target pairing
+target-none p h = by-pairings (λ φ. ≈-eq p (simp (pairing-product, zero-add) (omega arith)))
 
 pub division : {p : ℕ} → Prime p → (xs f : List ℕ) → Distinct p xs → Vanishes p f xs → (h : List ℕ) × Quotient p xs f h
 division {p} prime [] f d v = (

@@ -2,7 +2,7 @@ pub mod Congruence
 pub mod PrimeTest
 pub mod Inverse
 pub mod Polynomial
-pub mod Weights
+pub mod Pairing
 pub mod Same
 pub mod Difference
 pub mod Roots

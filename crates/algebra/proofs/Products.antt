@@ -1,4 +1,4 @@
--- The product of polynomials is symmetric, linear in each factor (in weights), and the same for the same factors.
+-- The product of polynomials is symmetric, linear in each factor (paired), and the same for the same factors.
 use mathlib.Core.Path.{_≡_, _∙_}
 use mathlib.Core.List.{List, [], _∷_}
 use Prim.Native.Nat.{ℕ, _+_, _*_}
@@ -7,39 +7,39 @@ use native.Mathlib.Omega.{arith}
 use Rattle.algebra.specs.Polynomial.{sum, multiple, product, _≋⟨_⟩_}
 use Rattle.algebra.proofs.Congruence.{≈-plus}
 use Rattle.algebra.proofs.Same.{≋-trans}
-use Rattle.algebra.proofs.Weights.{weigh, weights, by-weights, weigh-sum, weigh-multiple, weigh-product, weigh-swap}
+use Rattle.algebra.proofs.Pairing.{pairing, pairings, by-pairings, pairing-sum, pairing-multiple, pairing-product, pairing-swap}
 
-pub product-swap : (f g : List ℕ) (φ : ℕ → ℕ) → weigh (product f g) φ ≡ weigh (product g f) φ
+pub product-swap : (f g : List ℕ) (φ : ℕ → ℕ) → pairing (product f g) φ ≡ pairing (product g f) φ
 product-swap f g φ =
-    rw (weigh-product f g φ, weigh-product g f φ)
-    (weigh-swap f g (λ i j. φ (i + j)) ∙ (λ t. weigh g (λ j. weigh f (λ i. φ (add-comm i j t)))))
+    rw (pairing-product f g φ, pairing-product g f φ)
+    (pairing-swap f g (λ i j. φ (i + j)) ∙ (λ t. pairing g (λ j. pairing f (λ i. φ (add-comm i j t)))))
 
-pub product-sum-left : (f g h : List ℕ) (φ : ℕ → ℕ) → weigh (product (sum f g) h) φ ≡ weigh (product f h) φ + weigh (product g h) φ
-product-sum-left f g h φ = simp (weigh-product, weigh-sum)
+pub product-sum-left : (f g h : List ℕ) (φ : ℕ → ℕ) → pairing (product (sum f g) h) φ ≡ pairing (product f h) φ + pairing (product g h) φ
+product-sum-left f g h φ = simp (pairing-product, pairing-sum)
 
-pub product-multiple-left : (k : ℕ) (f h : List ℕ) (φ : ℕ → ℕ) → weigh (product (multiple k f) h) φ ≡ k * weigh (product f h) φ
-product-multiple-left k f h φ = simp (weigh-product, weigh-multiple)
+pub product-multiple-left : (k : ℕ) (f h : List ℕ) (φ : ℕ → ℕ) → pairing (product (multiple k f) h) φ ≡ k * pairing (product f h) φ
+product-multiple-left k f h φ = simp (pairing-product, pairing-multiple)
 
-pub product-sum-right : (h f g : List ℕ) (φ : ℕ → ℕ) → weigh (product h (sum f g)) φ ≡ weigh (product h f) φ + weigh (product h g) φ
+pub product-sum-right : (h f g : List ℕ) (φ : ℕ → ℕ) → pairing (product h (sum f g)) φ ≡ pairing (product h f) φ + pairing (product h g) φ
 product-sum-right h f g φ = rw (product-swap h (sum f g) φ, product-swap h f φ, product-swap h g φ) (product-sum-left f g h φ)
 
-pub product-multiple-right : (k : ℕ) (h f : List ℕ) (φ : ℕ → ℕ) → weigh (product h (multiple k f)) φ ≡ k * weigh (product h f) φ
+pub product-multiple-right : (k : ℕ) (h f : List ℕ) (φ : ℕ → ℕ) → pairing (product h (multiple k f)) φ ≡ k * pairing (product h f) φ
 product-multiple-right k h f φ = rw (product-swap h (multiple k f) φ, product-swap h f φ) (product-multiple-left k f h φ)
 
 -- times a constant
-pub product-constant : (h : List ℕ) (c : ℕ) (φ : ℕ → ℕ) → weigh (product h (c ∷ [])) φ ≡ c * weigh h φ
-unfolding weigh
-product-constant h c φ = rw (product-swap h (c ∷ []) φ) (simp (weigh-product, zero-add) (omega arith))
+pub product-constant : (h : List ℕ) (c : ℕ) (φ : ℕ → ℕ) → pairing (product h (c ∷ [])) φ ≡ c * pairing h φ
+unfolding pairing
+product-constant h c φ = rw (product-swap h (c ∷ []) φ) (simp (pairing-product, zero-add) (omega arith))
 
 pub product-same : {p : ℕ} (h f g : List ℕ) → f ≋⟨ p ⟩ g → product h f ≋⟨ p ⟩ product h g
-product-same h f g e = by-weights (λ φ.
-    rw (product-swap h f φ, product-swap h g φ, weigh-product f h φ, weigh-product g h φ)
-    (weights f g e (λ i. weigh h (λ j. φ (i + j)))))
+product-same h f g e = by-pairings (λ φ.
+    rw (product-swap h f φ, product-swap h g φ, pairing-product f h φ, pairing-product g h φ)
+    (pairings f g e (λ i. pairing h (λ j. φ (i + j)))))
 
 pub products-same : {p : ℕ} {f g h k : List ℕ} → f ≋⟨ p ⟩ g → h ≋⟨ p ⟩ k → product f h ≋⟨ p ⟩ product g k
 products-same {p} {f} {g} {h} {k} e d =
     ≋-trans (product-same f h k d)
-    (by-weights (λ φ. rw (weigh-product f k φ, weigh-product g k φ) (weights f g e (λ i. weigh k (λ j. φ (i + j))))))
+    (by-pairings (λ φ. rw (pairing-product f k φ, pairing-product g k φ) (pairings f g e (λ i. pairing k (λ j. φ (i + j))))))
 
 pub sums-same : {p : ℕ} {f g h k : List ℕ} → f ≋⟨ p ⟩ g → h ≋⟨ p ⟩ k → sum f h ≋⟨ p ⟩ sum g k
-sums-same {p} {f} {g} {h} {k} e d = by-weights (λ φ. rw (weigh-sum, weigh-sum) (≈-plus (weights f g e φ) (weights h k d φ)))
+sums-same {p} {f} {g} {h} {k} e d = by-pairings (λ φ. rw (pairing-sum, pairing-sum) (≈-plus (pairings f g e φ) (pairings h k d φ)))

@@ -15,7 +15,7 @@ use Rattle.algebra.proofs.Congruence.{≈-sym, ≈-plus, ≈-times, zer
 use Rattle.algebra.proofs.Inverse.{cancel, positive}
 use Rattle.algebra.proofs.Same.{≋-refl}
 use Rattle.algebra.proofs.Difference.{difference, length-difference, difference-value, difference-zero}
-use Rattle.algebra.proofs.Weights.{weigh, weights, by-weights, weigh-times, value-weigh}
+use Rattle.algebra.proofs.Pairing.{pairing, pairings, by-pairings, pairing-times, value-pairing}
 
 pub length-divided : (c : ℕ) (f : List ℕ) → length (divided c f) ≡ pred (length f)
 unfolding divided
@@ -24,20 +24,20 @@ length-divided c (a ∷ []) = refl
 length-divided c (a ∷ b ∷ f) = ap suc (length-divided c (b ∷ f))
 
 -- f = (X − c) times the quotient, plus its value at c
-pub divided-weigh : (c : ℕ) (f : List ℕ) (φ : ℕ → ℕ) →
-    weigh f φ + c * weigh (divided c f) φ ≡ value f c * φ 0 + weigh (divided c f) (λ k. φ (suc k))
-unfolding divided value weigh
-divided-weigh c [] φ = omega arith
-divided-weigh c (a ∷ []) φ = omega arith
-divided-weigh c (a ∷ b ∷ f) φ = omega (arith, divided-weigh c (b ∷ f) (λ k. φ (suc k)))
+pub divided-pairing : (c : ℕ) (f : List ℕ) (φ : ℕ → ℕ) →
+    pairing f φ + c * pairing (divided c f) φ ≡ value f c * φ 0 + pairing (divided c f) (λ k. φ (suc k))
+unfolding divided value pairing
+divided-pairing c [] φ = omega arith
+divided-pairing c (a ∷ []) φ = omega arith
+divided-pairing c (a ∷ b ∷ f) φ = omega (arith, divided-pairing c (b ∷ f) (λ k. φ (suc k)))
 
 pub divided-value : (c : ℕ) (f : List ℕ) (s : ℕ) →
     value f s + c * value (divided c f) s ≡ value f c + s * value (divided c f) s
 divided-value c f s =
     let q = divided c f in
-    let d : weigh f (λ k. s ^ k) + c * weigh q (λ k. s ^ k) ≡ value f c * 1 + weigh q (λ k. s * s ^ k) =
-    simp (pow-zero, pow-succ') at (divided-weigh c f (λ k. s ^ k)) in
-    rw (value-weigh f s, value-weigh q s) (omega (arith, d, weigh-times s q (λ k. s ^ k)))
+    let d : pairing f (λ k. s ^ k) + c * pairing q (λ k. s ^ k) ≡ value f c * 1 + pairing q (λ k. s * s ^ k) =
+    simp (pow-zero, pow-succ') at (divided-pairing c f (λ k. s ^ k)) in
+    rw (value-pairing f s, value-pairing q s) (omega (arith, d, pairing-times s q (λ k. s ^ k)))
 
 pub distinct-rest : {p x : ℕ} {xs : List ℕ} → Distinct p (x ∷ xs) → Distinct p xs
 distinct-rest d = record { apart = λ i j h k. d .apart (suc i) (suc j) (omega arith) (omega arith) }
@@ -57,12 +57,12 @@ module _ {p : ℕ} (prime : Prime p) where
 
   -- where f is 0 at x and its quotient by X − x is 0, f is 0
   from-divided : (x : ℕ) (f : List ℕ) → value f x ≈⟨ p ⟩ 0 → divided x f ≋⟨ p ⟩ [] → f ≋⟨ p ⟩ []
-  unfolding weigh
-  from-divided x f fx h = by-weights (λ φ.
+  unfolding pairing
+  from-divided x f fx h = by-pairings (λ φ.
       let q = divided x f in
       by
-      (≈-plus (≈-plus (≈-times (φ 0) fx) (weights q [] h (λ k. φ (suc k)))) (≈-times x (≈-sym (weights q [] h φ))))
-      (omega (arith, divided-weigh x f φ)))
+      (≈-plus (≈-plus (≈-times (φ 0) fx) (pairings q [] h (λ k. φ (suc k)))) (≈-times x (≈-sym (pairings q [] h φ))))
+      (omega (arith, divided-pairing x f φ)))
 
   -- a list with no more entries than there are points that is 0 at all of them is 0
   pub roots : (xs f : List ℕ) → Distinct p xs → length f ≤ length xs → Vanishes p f xs → f ≋⟨ p ⟩ []

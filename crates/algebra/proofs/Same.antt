@@ -10,7 +10,7 @@ use Rattle.algebra.specs.Congruence.{_≈⟨_⟩_}
 use Rattle.algebra.specs.Polynomial.{Words, value, reduced, _≋⟨_⟩_}
 use Rattle.algebra.proofs.Congruence.{≈-refl, ≈-sym, ≈-trans, ≈-reduced, ≈-words}
 use Rattle.algebra.proofs.Polynomial.{coefficient-reduced}
-use Rattle.algebra.proofs.Weights.{weights, value-weigh}
+use Rattle.algebra.proofs.Pairing.{pairings, value-pairing}
 
 pub ≋-refl : (p : ℕ) (f : List ℕ) → f ≋⟨ p ⟩ f
 ≋-refl p f = record { coefficient = λ k. ≈-refl p (getD f k 0) }
@@ -22,7 +22,7 @@ pub ≋-trans : {p : ℕ} {f g l : List ℕ} → f ≋⟨ p ⟩ g → g ≋⟨ p
 ≋-trans h k = record { coefficient = λ i. ≈-trans (h .coefficient i) (k .coefficient i) }
 
 pub ≋-value : {p : ℕ} {f g : List ℕ} → f ≋⟨ p ⟩ g → (s : ℕ) → value f s ≈⟨ p ⟩ value g s
-≋-value {p} {f} {g} h s = rw (value-weigh f s, value-weigh g s) (weights f g h (λ k. s ^ k))
+≋-value {p} {f} {g} h s = rw (value-pairing f s, value-pairing g s) (pairings f g h (λ k. s ^ k))
 
 pub ≋-reduced : (p : ℕ) (f : List ℕ) → reduced p f ≋⟨ p ⟩ f
 ≋-reduced p f = record { coefficient = λ k. rw (coefficient-reduced p f k) (≈-reduced p (getD f k 0)) }

@@ -9,16 +9,16 @@ use Rattle.algebra.specs.Polynomial.{product, _≋⟨_⟩_}
 use Rattle.algebra.specs.Points.{factor, target}
 use Rattle.algebra.specs.Basis.{without}
 use Rattle.algebra.proofs.Congruence.{≈-eq}
-use Rattle.algebra.proofs.Weights.{by-weights}
+use Rattle.algebra.proofs.Pairing.{by-pairings}
 use Rattle.algebra.proofs.Same.{≋-sym, ≋-trans, ≋-reduced}
 use Rattle.algebra.specs.Polynomial.{divided}
 use Rattle.algebra.proofs.Target.{target-zero}
-use Rattle.algebra.proofs.Division.{weigh-factor, factor-same, factor-cancel, divided-exact}
+use Rattle.algebra.proofs.Division.{pairing-factor, factor-same, factor-cancel, divided-exact}
 
 -- two factors in either order
 factor-swap : (p c d : ℕ) (f : List ℕ) →
     product (c ∷ 1 ∷ []) (product (d ∷ 1 ∷ []) f) ≋⟨ p ⟩ product (d ∷ 1 ∷ []) (product (c ∷ 1 ∷ []) f)
-factor-swap p c d f = by-weights (λ φ. ≈-eq p (simp weigh-factor (omega arith)))
+factor-swap p c d f = by-pairings (λ φ. ≈-eq p (simp pairing-factor (omega arith)))
 
 -- the target by its definition, not reduced
 target-factor : (p x : ℕ) (xs : List ℕ) → target p (x ∷ xs) ≋⟨ p ⟩ product (factor p x) (target p xs)

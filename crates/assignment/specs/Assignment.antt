@@ -6,22 +6,22 @@ use Prim.Native.Nat.{ℕ, _+_, _-_}
 use lib.Dec.{leb, eqb}
 use lib.ListN.{length, take}
 use Rattle.outcome.specs.declared.Outcome.{Outcome}
-use Rattle.outcome.specs.Verdict.{require, _andThen_, first, written}
+use Rattle.outcome.specs.Verdict.{require, _andThen_, firstFault, whenAccepted}
 use Rattle.field.specs.Field.{p}
 use Rattle.circuit.specs.Circuit.{word, publics, columns}
 use Rattle.circuit.specs.Reader.{circuitVerdict}
 
 -- the index of the value of column j: a public value stands behind one count, a private one behind two
-unfoldable pub weightAt : List ℕ → ℕ → ℕ
-weightAt c j = elim (leb j (publics c)) [ true ↦ j | false ↦ j + 1 ]
+unfoldable pub assignedAt : List ℕ → ℕ → ℕ
+assignedAt c j = elim (leb j (publics c)) [ true ↦ j | false ↦ j + 1 ]
 
 -- the value w_j of column j; a public section alone has the public ones at the same index
-abbrev pub weight : List ℕ → List ℕ → ℕ → ℕ
-weight c a j = word a (weightAt c j)
+abbrev pub assigned : List ℕ → List ℕ → ℕ → ℕ
+assigned c a j = word a (assignedAt c j)
 
 -- a word above p − 1, at the lowest such index; the list's indices begin with `from`
 unfoldable pub wordsVerdict : ℕ → ℕ → List ℕ → Outcome
-wordsVerdict number from a = first (λ i. require (leb (word a i) (p - 1)) number (from + i)) (length a)
+wordsVerdict number from a = firstFault (λ i. require (leb (word a i) (p - 1)) number (from + i)) (length a)
 
 -- 7: the first public value not 1, or a value above p − 1, at the lowest such index. The counts stand among the words;
 -- 6 held them to the circuit's, so they are never above p − 1.
@@ -53,4 +53,4 @@ circuitThenPublic c a = circuitVerdict c andThen publicVerdict c a
 
 -- the public section handed out: the first q + 1 words, or none where circuit or assignment would be refused
 unfoldable pub publicSection : List ℕ → List ℕ → List ℕ
-publicSection c a = written (circuitThenAssignment c a) (take (publics c + 1) a) []
+publicSection c a = whenAccepted (circuitThenAssignment c a) (take (publics c + 1) a) []

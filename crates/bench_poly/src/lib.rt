@@ -8,7 +8,7 @@ ghost use Rattle.algebra.specs.Points.{consecutive, target, Through};
 ghost use Rattle.field.specs.Field.{p};
 ghost use Rattle.poly.specs.AddScaled.{scaled};
 ghost use Rattle.poly.specs.Factor.{timesFactor};
-ghost use Rattle.poly.specs.Product.{within};
+ghost use Rattle.poly.specs.Product.{padded};
 ghost use Rattle.poly.specs.Division.{division};
 
 #[no_mangle]
@@ -45,7 +45,7 @@ pub extern "C" fn bench_target(z: &mut [u32])
 #[no_mangle]
 pub extern "C" fn bench_product(f: &[u32], g: &[u32]) -> u32
     requires { ⌜ (length (now f) ≤ 257) × (length (now g) ≤ 257) ⌝ }
-    ensures { λ r. ⌜ r ≡ getD (within 513 (reduced p (product (now (f .entry)) (now (g .entry))))) 512 0 ⌝ }
+    ensures { λ r. ⌜ r ≡ getD (padded 513 (reduced p (product (now (f .entry)) (now (g .entry))))) 512 0 ⌝ }
 {
     let room = poly::product(f, g);
     room[512]

@@ -6,7 +6,7 @@ use Prim.Native.Nat.{ℕ, _-_}
 use lib.Dec.{leb, ltb, eqb}
 use lib.ListN.{length}
 use Rattle.outcome.specs.declared.Outcome.{Outcome}
-use Rattle.outcome.specs.Verdict.{require, within, _andThen_, first}
+use Rattle.outcome.specs.Verdict.{require, within, _andThen_, firstFault}
 use Rattle.field.specs.Field.{p}
 use Rattle.circuit.specs.Circuit.{rows, publics, columns, entries, entryAt, rowOf, columnOf, valueOf, section, sectionEnd, ending}
 
@@ -37,7 +37,7 @@ sectionVerdict c s =
     require (ltb s (length c)) 1 (length c)
     andThen require (leb (entries c s) 1024) 2 s
     andThen require (leb (sectionEnd c s) (length c)) 1 (length c)
-    andThen first (entryVerdict c s) (entries c s)
+    andThen firstFault (entryVerdict c s) (entries c s)
 
 -- m, n, q in that order; they stand as m, q, n
 unfoldable pub countsVerdict : ℕ → ℕ → ℕ → Outcome
@@ -51,7 +51,7 @@ unfoldable pub prefixVerdict : List ℕ → Outcome
 prefixVerdict c =
     require (leb 3 (length c)) 1 (length c)
     andThen countsVerdict (rows c) (publics c) (columns c)
-    andThen first (λ matrix. sectionVerdict c (section c matrix)) 3
+    andThen firstFault (λ matrix. sectionVerdict c (section c matrix)) 3
 
 -- words that are a circuit and nothing else: left-over words come last
 unfoldable pub circuitVerdict : List ℕ → Outcome

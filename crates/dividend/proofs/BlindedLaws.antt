@@ -9,15 +9,15 @@ use lib.Seq.{drop-cons, getD-set-same, getD-take, take-set-le, length-take-le}
 use Rattle.algebra.specs.Polynomial.{Words}
 use Rattle.algebra.specs.Points.{Through, consecutive, target}
 use Rattle.algebra.proofs.Congruence.{≈-trans, ≈-eq}
-use Rattle.algebra.proofs.Weights.{weigh, by-weights, weigh-sum, weigh-multiple}
+use Rattle.algebra.proofs.Pairing.{pairing, by-pairings, pairing-sum, pairing-multiple}
 use Rattle.algebra.proofs.Consecutive.{length-consecutive}
 use Rattle.algebra.proofs.Target.{length-target}
 use Rattle.field.specs.Field.{p, InverseTable}
 use Rattle.field.proofs.PrimeField.{p-prime, p-positive}
 use Rattle.poly.specs.AddScaled.{scaled}
 use Rattle.poly.specs.Interpolation.{interpolated}
-use Rattle.poly.proofs.Words.{words-cons, words-append, weigh-append}
-use Rattle.poly.proofs.ScaledLaws.{length-scaled, words-scaled, weigh-scaled}
+use Rattle.poly.proofs.Words.{words-cons, words-append, pairing-append}
+use Rattle.poly.proofs.ScaledLaws.{length-scaled, words-scaled, pairing-scaled}
 use Rattle.poly.proofs.InterpolationLaws.{interpolated-through}
 use Rattle.dividend.specs.Blinded.{BlindedThrough}
 
@@ -48,7 +48,7 @@ module _ (m : ℕ) (out : List ℕ) (size : length out ≡ m + 1) where
 
   pub blinded-law : (few : m ≤ 256) → Words p (take m out) → (t : List ℕ) → InverseTable t → (d : ℕ) (z new : List ℕ) → z ≡ target p (consecutive 1 m) →
       new ≡ scaled p d z (interpolated p t 1 (take m out) ++ 0 ∷ []) → BlindedThrough (consecutive 1 m) (λ i. getD out i 0) d new
-  unfolding weigh
+  unfolding pairing
   blinded-law few words t table d z new target-z e =
       let f = interpolated p t 1 (take m out) in
       let through = values-through few words t table in
@@ -60,8 +60,8 @@ module _ (m : ℕ) (out : List ℕ) (size : length out ≡ m + 1) where
         through = through;
         size = rw (e, length-scaled) (omega arith);
         words = rw e (words-scaled p-positive d z (f ++ 0 ∷ []) (words-append f (0 ∷ []) (through .words) (words-cons p-positive none)));
-        same = by-weights (λ φ. rw (e, weigh-sum, weigh-multiple, ← target-z)
-            (≈-trans (weigh-scaled p d z (f ++ 0 ∷ []) φ fits) (≈-eq p (rw weigh-append (omega arith)))));
+        same = by-pairings (λ φ. rw (e, pairing-sum, pairing-multiple, ← target-z)
+            (≈-trans (pairing-scaled p d z (f ++ 0 ∷ []) φ fits) (≈-eq p (rw pairing-append (omega arith)))));
       }
     where
       none : Words p []

@@ -17,7 +17,7 @@ use Rattle.algebra.proofs.Target.{length-target, target-zero}
 use Rattle.algebra.proofs.Blinding.{divides-alike}
 use Rattle.field.specs.Field.{p}
 use Rattle.field.proofs.PrimeField.{p-positive}
-use Rattle.poly.specs.Product.{within}
+use Rattle.poly.specs.Product.{padded}
 use Rattle.circuit.specs.Circuit.{rows, columns, points}
 use Rattle.rows.specs.Rows.{RowsHold, wholeSum}
 use Rattle.qap.specs.declared.Blinders.{Blinders}
@@ -105,7 +105,7 @@ module _ (c a : List ℕ) (few : rows c ≤ 256) (distinct : Distinct p (points 
     size-z = omega (arith, length-target p (points c), points-count)
 
     -- a candidate divides exactly where Z times it fills a room with the same words
-    pub candidate-rooms : CandidateDivides c a d h → leftSide f g k ≡ within 513 (reduced p (product (targetOf c) h))
+    pub candidate-rooms : CandidateDivides c a d h → leftSide f g k ≡ padded 513 (reduced p (product (targetOf c) h))
     candidate-rooms q =
         let same-A = part-unique c a 0 0 (columns c) distinct (q .whole-A) whole-A in
         let same-B = part-unique c a 1 0 (columns c) distinct (q .whole-B) whole-B in
@@ -114,5 +114,5 @@ module _ (c a : List ℕ) (few : rows c ≤ 256) (distinct : Distinct p (points 
         equal-rooms (rows c) few f g k size-f size-g size-k (targetOf c) h size-z size-h
         (divides-alike (≋-sym (bf .same)) (≋-sym (bg .same)) (≋-sym (bk .same)) divides .equal)
 
-    pub rooms-candidate : leftSide f g k ≡ within 513 (reduced p (product (targetOf c) h)) → CandidateDivides c a d h
+    pub rooms-candidate : leftSide f g k ≡ padded 513 (reduced p (product (targetOf c) h)) → CandidateDivides c a d h
     rooms-candidate e = candidate (record { equal = rooms-equal (rows c) few f g k size-f size-g size-k (targetOf c) h size-z size-h e })

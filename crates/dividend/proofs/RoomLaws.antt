@@ -12,29 +12,29 @@ use Rattle.algebra.specs.Points.{Vanishes, consecutive}
 use Rattle.algebra.specs.Blinding.{Holds, Divides}
 use Rattle.algebra.proofs.Congruence.{≈-refl, ≈-trans, ≈-plus, ≈-negative, by}
 use Rattle.algebra.proofs.Polynomial.{length-reduced, value-product}
-use Rattle.algebra.proofs.Weights.{weigh, weights, by-weights, weigh-sum}
+use Rattle.algebra.proofs.Pairing.{pairing, pairings, by-pairings, pairing-sum}
 use Rattle.algebra.proofs.Same.{≋-sym, ≋-trans, ≋-value, ≋-reduced, reduced-words, words-equal}
-use Rattle.algebra.proofs.Difference.{difference, length-difference, weigh-difference, difference-value, difference-sum}
+use Rattle.algebra.proofs.Difference.{difference, length-difference, pairing-difference, difference-value, difference-sum}
 use Rattle.algebra.proofs.Consecutive.{length-consecutive, distinct-consecutive}
 use Rattle.field.specs.Field.{p}
 use Rattle.field.proofs.PrimeField.{p-prime, p-positive}
-use Rattle.poly.specs.Product.{within}
+use Rattle.poly.specs.Product.{padded}
 use Rattle.poly.proofs.Words.{words-take}
-use Rattle.poly.proofs.ScaledLaws.{length-scaled, words-scaled, weigh-scaled}
-use Rattle.poly.proofs.ProductLaws.{length-within, words-within, weigh-within, length-product-fits}
+use Rattle.poly.proofs.ScaledLaws.{length-scaled, words-scaled, pairing-scaled}
+use Rattle.poly.proofs.ProductLaws.{length-padded, words-padded, pairing-padded, length-product-fits}
 use Rattle.poly.proofs.DivisionLaws.{quotient-exact, length-quotient, words-quotient}
 use Rattle.dividend.specs.Room.{leftSide, roomQuotient}
 
 -- a product in the room
-within-same : (f g : List ℕ) → within 513 (reduced p (product f g)) ≋⟨ p ⟩ product f g
-within-same f g = by-weights (λ φ. rw weigh-within (weights (reduced p (product f g)) (product f g) (≋-reduced p (product f g)) φ))
+padded-same : (f g : List ℕ) → padded 513 (reduced p (product f g)) ≋⟨ p ⟩ product f g
+padded-same f g = by-pairings (λ φ. rw pairing-padded (pairings (reduced p (product f g)) (product f g) (≋-reduced p (product f g)) φ))
 
 module _ (m : ℕ) (few : m ≤ 256) (f g : List ℕ) (size-f : length f ≡ suc m) (size-g : length g ≡ suc m) where
-  length-room : length (within 513 (reduced p (product f g))) ≡ 513
-  length-room = length-within 513 (reduced p (product f g)) (rw length-reduced (length-product-fits f g 513 (omega arith) (omega arith)))
+  length-room : length (padded 513 (reduced p (product f g))) ≡ 513
+  length-room = length-padded 513 (reduced p (product f g)) (rw length-reduced (length-product-fits f g 513 (omega arith) (omega arith)))
 
-  words-room : Words p (within 513 (reduced p (product f g)))
-  words-room = words-within p-positive 513 (reduced p (product f g)) (reduced-words p-positive (product f g))
+  words-room : Words p (padded 513 (reduced p (product f g)))
+  words-room = words-padded p-positive 513 (reduced p (product f g)) (reduced-words p-positive (product f g))
 
 module _ (m : ℕ) (few : m ≤ 256) (a b c : List ℕ) (size-a : length a ≡ suc m) (size-b : length b ≡ suc m) (size-c : length c ≡ suc m) where
   length-left : length (leftSide a b c) ≡ 513
@@ -43,15 +43,15 @@ module _ (m : ℕ) (few : m ≤ 256) (a b c : List ℕ) (size-a : length a ≡ s
 
   words-left : Words p (leftSide a b c)
   unfolding leftSide
-  words-left = words-scaled p-positive (p - 1) c (within 513 (reduced p (product a b))) (words-room m few a b size-a size-b)
+  words-left = words-scaled p-positive (p - 1) c (padded 513 (reduced p (product a b))) (words-room m few a b size-a size-b)
 
   left-same : leftSide a b c ≋⟨ p ⟩ difference p (product a b) c
   unfolding leftSide
-  left-same = by-weights (λ φ.
-      let room = within 513 (reduced p (product a b)) in
-      rw (weigh-difference p (product a b) c φ)
-      (≈-trans (weigh-scaled p (p - 1) c room φ (omega (arith, length-room m few a b size-a size-b)))
-      (≈-plus (weights room (product a b) (within-same a b) φ) (≈-refl p ((p - 1) * weigh c φ)))))
+  left-same = by-pairings (λ φ.
+      let room = padded 513 (reduced p (product a b)) in
+      rw (pairing-difference p (product a b) c φ)
+      (≈-trans (pairing-scaled p (p - 1) c room φ (omega (arith, length-room m few a b size-a size-b)))
+      (≈-plus (pairings room (product a b) (padded-same a b) φ) (≈-refl p ((p - 1) * pairing c φ)))))
 
   -- the room's first 2 m + 1 words are all of it
   front-same : take (m + m + 1) (leftSide a b c) ≋⟨ p ⟩ difference p (product a b) c
@@ -99,13 +99,13 @@ module _ (m : ℕ) (few : m ≤ 256) (a b c : List ℕ) (size-a : length a ≡ s
 
   module _ (z h : List ℕ) (size-z : length z ≡ suc m) (size-h : length h ≡ suc m) where
     -- the room of Z times a candidate holds the same words exactly where A'B' − C' = Z h
-    pub rooms-equal : leftSide a b c ≡ within 513 (reduced p (product z h)) → product a b ≋⟨ p ⟩ sum c (product z h)
-    rooms-equal e = difference-sum p-positive (product a b) c (≋-trans (≋-sym left-same) (rw e (within-same z h)))
+    pub rooms-equal : leftSide a b c ≡ padded 513 (reduced p (product z h)) → product a b ≋⟨ p ⟩ sum c (product z h)
+    rooms-equal e = difference-sum p-positive (product a b) c (≋-trans (≋-sym left-same) (rw e (padded-same z h)))
 
-    pub equal-rooms : product a b ≋⟨ p ⟩ sum c (product z h) → leftSide a b c ≡ within 513 (reduced p (product z h))
+    pub equal-rooms : product a b ≋⟨ p ⟩ sum c (product z h) → leftSide a b c ≡ padded 513 (reduced p (product z h))
     equal-rooms e =
         words-equal (length-left ∙ sym (length-room m few z h size-z size-h)) words-left (words-room m few z h size-z size-h)
-        (≋-trans left-same (≋-trans (by-weights (λ φ.
-        rw (weigh-difference p (product a b) c φ)
-        (by (≈-plus (rw weigh-sum at (weights (product a b) (sum c (product z h)) e φ)) (≈-negative p-positive (weigh c φ))) (omega arith))))
-        (≋-sym (within-same z h))))
+        (≋-trans left-same (≋-trans (by-pairings (λ φ.
+        rw (pairing-difference p (product a b) c φ)
+        (by (≈-plus (rw pairing-sum at (pairings (product a b) (sum c (product z h)) e φ)) (≈-negative p-positive (pairing c φ))) (omega arith))))
+        (≋-sym (padded-same z h))))

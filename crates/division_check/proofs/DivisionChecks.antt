@@ -12,7 +12,7 @@ use Rattle.algebra.specs.Points.{Distinct, consecutive, target}
 use Rattle.algebra.proofs.Consecutive.{length-consecutive}
 use Rattle.algebra.proofs.Target.{length-target}
 use Rattle.field.specs.Field.{p, InverseTable}
-use Rattle.poly.specs.Product.{within}
+use Rattle.poly.specs.Product.{padded}
 use Rattle.circuit.specs.Circuit.{rows, points}
 use Rattle.circuit.proofs.Formed.{circuit-formed}
 use Rattle.assignment.proofs.Accepted.{assignment-formed}
@@ -58,7 +58,7 @@ module _ (c a : List ℕ) (d : Blinders) (h : List ℕ) (accepted : Accepted (ch
     table = table;
   }
 
-  pub division-decided : {z left right : List ℕ} {x : Bool} → z ≡ targetOf c → Sides c a d left → right ≡ within 513 (reduced p (product z h)) →
+  pub division-decided : {z left right : List ℕ} {x : Bool} → z ≡ targetOf c → Sides c a d left → right ≡ padded 513 (reduced p (product z h)) →
       Decides (left ≡ right) x → Decides (CandidateDivides c a d h) x
   division-decided made sides filled = decides-other
       (λ e. rooms-candidate c a few points-distinct d (sides .is-A') (sides .is-B') (sides .is-C') h candidate-size

@@ -18,7 +18,7 @@ use Rattle.circuit.proofs.Sections.{ends-within}
 use Rattle.assignment.specs.Assignment.{wordsVerdict, assignmentVerdict}
 use Rattle.assignment.proofs.Accepted.{assignment-formed}
 use Rattle.qap.specs.Refusals.{blinderWords, pointVerdict, readyVerdict, answersVerdict}
-use Rattle.job_file.specs.File.{assignmentOf, remainder, blindersOf, pointOf, sizeVerdict, remainderVerdict, fileVerdict, jobVerdict}
+use Rattle.job_file.specs.File.{assignmentOf, trailer, blindersOf, pointOf, sizeVerdict, trailerVerdict, fileVerdict, jobVerdict}
 use Rattle.job_file.specs.Parts.{partsVerdict, restVerdict}
 use Rattle.job_file.specs.Read.{Parted, Read}
 use Rattle.job_file.specs.declared.Job.{Job}
@@ -45,14 +45,14 @@ file-parts w = refl
 pub up-to-the-end : (n : ℕ) (w : List ℕ) → take (length w - n) (drop n w) ≡ drop n w
 up-to-the-end n w = take-all (length w - n) (drop n w) (simp length-drop (omega arith))
 
-pub remainder-six : (t : List ℕ) → Accepted (remainderVerdict t) → length t ≡ 6
-unfolding remainderVerdict
-remainder-six t h = eqb-true _ _ (taken _ _ _ (lit< tt) h .0)
+pub trailer-six : (t : List ℕ) → Accepted (trailerVerdict t) → length t ≡ 6
+unfolding trailerVerdict
+trailer-six t h = eqb-true _ _ (taken _ _ _ (lit< tt) h .0)
 
 pub record Ready (w : List ℕ) : Type 0 where
   pub circuit : Accepted (circuitVerdict (leading w))
   pub assignment : Accepted (assignmentVerdict (leading w) (assignmentOf w))
-  pub remains : length (remainder w) ≡ 6
+  pub remains : length (trailer w) ≡ 6
   pub blinders : Accepted (wordsVerdict 12 0 (blinderWords (blindersOf w)))
   pub point : Accepted (pointVerdict (leading w) (pointOf w))
 
@@ -66,7 +66,7 @@ file-ready w h =
     record {
       circuit = leading-accepted w (begun .0);
       assignment = assigned .0;
-      remains = remainder-six (remainder w) (shaped .0);
+      remains = trailer-six (trailer w) (shaped .0);
       blinders = blinded .0;
       point = blinded .1;
     }

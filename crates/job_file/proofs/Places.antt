@@ -8,7 +8,7 @@ use borrow.Author.Tests.{leb-true, ltb-true}
 use lib.Dec.{lit<}
 use lib.ListN.{length, length-take, length-drop}
 use Rattle.outcome.specs.declared.Outcome.{Outcome}
-use Rattle.outcome.specs.Verdict.{Accepted, Refused, require, _andThen_, first}
+use Rattle.outcome.specs.Verdict.{Accepted, Refused, require, _andThen_, firstFault}
 use Rattle.outcome.proofs.Verdict.{accepted-or-refused, goes-on, stops, require-accepted}
 use Rattle.circuit.specs.Circuit.{rows, entries, entryAt, section, leading}
 use Rattle.circuit.specs.Reader.{rangesVerdict, entryVerdict, sectionVerdict, countsVerdict, prefixVerdict, circuitVerdict}
@@ -18,7 +18,7 @@ use Rattle.assignment.proofs.Accepted.{each}
 use Rattle.rows.specs.Rows.{rowVerdict, rowsVerdict}
 use Rattle.qap.specs.declared.FourAnswers.{FourAnswers}
 use Rattle.qap.specs.Refusals.{blinderWords, answerWords, pointVerdict, lengthVerdict, checkAnswersVerdict}
-use Rattle.job_file.specs.File.{assignmentOf, blindersOf, pointOf, sizeVerdict, remainderVerdict, fileVerdict, jobVerdict}
+use Rattle.job_file.specs.File.{assignmentOf, blindersOf, pointOf, sizeVerdict, trailerVerdict, fileVerdict, jobVerdict}
 use Rattle.job_file.proofs.FileLaws.{file-ready}
 
 pub record Near (bound : ℕ) (o : Outcome) : Type 0 where
@@ -40,8 +40,8 @@ module _ {bound : ℕ} where
   pub near-next : {a b : Outcome} → Near bound a → Near bound b → Near bound (a andThen b)
   near-next ha hb = near-then ha (λ h. hb)
 
-  near-first : (f : ℕ → Outcome) (k : ℕ) → ((i : ℕ) → i < k → Near bound (f i)) → Near bound (first f k)
-  unfolding first
+  near-first : (f : ℕ → Outcome) (k : ℕ) → ((i : ℕ) → i < k → Near bound (f i)) → Near bound (firstFault f k)
+  unfolding firstFault
   near-first f zero h = record { near = omega arith }
   near-first f (suc k) h = near-then (near-first f k (λ i l. h i (omega arith))) (λ a. h k (omega arith))
 
@@ -129,7 +129,7 @@ module _ {bound : ℕ} where
 
     module _ (w : List ℕ) (few : length w ≤ bound) where
       pub near-file : Near bound (fileVerdict w)
-      unfolding fileVerdict remainderVerdict
+      unfolding fileVerdict trailerVerdict
       near-file =
           let zeroth : 0 ≤ bound = omega arith in
           let begun = near-prefix w few in

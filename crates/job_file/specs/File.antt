@@ -20,22 +20,22 @@ abbrev pub assignmentOf : List ℕ → List ℕ
 assignmentOf w = take (columns (leading w) + 2) (drop (ending w) w)
 
 -- what remains: count 3, three blinders, count 1, the point
-abbrev pub remainder : List ℕ → List ℕ
-remainder w = drop (columns (leading w) + 2) (drop (ending w) w)
+abbrev pub trailer : List ℕ → List ℕ
+trailer w = drop (columns (leading w) + 2) (drop (ending w) w)
 
 abbrev pub blindersOf : List ℕ → Blinders
-blindersOf w = record { first = word (remainder w) 1; second = word (remainder w) 2; third = word (remainder w) 3 }
+blindersOf w = record { first = word (trailer w) 1; second = word (trailer w) 2; third = word (trailer w) 3 }
 
 abbrev pub pointOf : List ℕ → ℕ
-pointOf w = word (remainder w) 5
+pointOf w = word (trailer w) 5
 
 -- 14: above 37,944 bytes, or no multiple of 4
 unfoldable pub sizeVerdict : ℕ → Outcome
 sizeVerdict size = require (leb size 37944) 14 0 andThen require (eqb (size % 4) 0) 14 0
 
 -- 14: what remains is not exactly 6 words with those two counts
-unfoldable pub remainderVerdict : List ℕ → Outcome
-remainderVerdict t =
+unfoldable pub trailerVerdict : List ℕ → Outcome
+trailerVerdict t =
     require (eqb (length t) 6) 14 0
     andThen require (eqb (word t 0) 3) 14 0
     andThen require (eqb (word t 4) 1) 14 0
@@ -45,7 +45,7 @@ unfoldable pub fileVerdict : List ℕ → Outcome
 fileVerdict w =
     prefixVerdict w
     andThen assignmentVerdict (leading w) (assignmentOf w)
-    andThen remainderVerdict (remainder w)
+    andThen trailerVerdict (trailer w)
     andThen wordsVerdict 12 0 (blinderWords (blindersOf w))
     andThen pointVerdict (leading w) (pointOf w)
 

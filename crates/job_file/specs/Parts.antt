@@ -9,7 +9,7 @@ use Rattle.circuit.specs.Circuit.{word, columns}
 use Rattle.assignment.specs.Assignment.{wordsVerdict, assignmentVerdict}
 use Rattle.qap.specs.declared.Blinders.{Blinders}
 use Rattle.qap.specs.Refusals.{blinderWords, pointVerdict}
-use Rattle.job_file.specs.File.{remainderVerdict}
+use Rattle.job_file.specs.File.{trailerVerdict}
 
 abbrev pub blindersIn : List ℕ → Blinders
 blindersIn t = record { first = word t 1; second = word t 2; third = word t 3 }
@@ -18,7 +18,7 @@ blindersIn t = record { first = word t 1; second = word t 2; third = word t 3 }
 unfoldable pub partsVerdict : List ℕ → List ℕ → List ℕ → Outcome
 partsVerdict c a t =
     assignmentVerdict c a
-    andThen remainderVerdict t
+    andThen trailerVerdict t
     andThen wordsVerdict 12 0 (blinderWords (blindersIn t))
     andThen pointVerdict c (word t 5)
 

@@ -2,7 +2,7 @@
 ghost use mathlib.Core.Path.{_≡_};
 ghost use lib.ListN.{length};
 ghost use Rattle.circuit.specs.WellFormed.{Formed};
-ghost use Rattle.job_file.specs.File.{sizeVerdict, remainderVerdict};
+ghost use Rattle.job_file.specs.File.{sizeVerdict, trailerVerdict};
 ghost use Rattle.job_file.specs.Parts.{blindersIn, partsVerdict, restVerdict};
 ghost use Rattle.job_file.specs.Read.{Read};
 use outcome::Outcome;
@@ -42,8 +42,8 @@ pub fn size_verdict(size: usize) -> Outcome
 }
 
 // 14 of what remains after the assignment.
-fn remainder_verdict(t: &[u32]) -> Outcome
-    ensures { λ r. ⌜ r ≡ remainderVerdict (now (t .entry)) ⌝ }
+fn trailer_verdict(t: &[u32]) -> Outcome
+    ensures { λ r. ⌜ r ≡ trailerVerdict (now (t .entry)) ⌝ }
 {
     if t.len() != 6 {
         return Outcome {
@@ -90,7 +90,7 @@ fn parts_verdict(circuit: &[u32], values: &[u32], t: &[u32]) -> Outcome
     if assigned.number != 0 {
         return assigned;
     }
-    let shaped = remainder_verdict(t);
+    let shaped = trailer_verdict(t);
     if shaped.number != 0 {
         return shaped;
     }

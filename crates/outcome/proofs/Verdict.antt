@@ -10,7 +10,7 @@ use native.Mathlib.Omega.{arith}
 use borrow.Author.Tests.{le-leb, leb-true}
 use lib.Dec.{leb}
 use Rattle.outcome.specs.declared.Outcome.{Outcome}
-use Rattle.outcome.specs.Verdict.{fine, outcome, Accepted, Refused, require, Within, within, _andThen_, first, written}
+use Rattle.outcome.specs.Verdict.{fine, outcome, Accepted, Refused, require, Within, within, _andThen_, firstFault, whenAccepted}
 
 pub accepted-or-refused : (o : Outcome) → Accepted o ⊎ Refused o
 accepted-or-refused o =
@@ -101,27 +101,27 @@ true-within low x high h =
 
 -- the first fault of many
 
-pub accepted-each : (f : ℕ → Outcome) (k : ℕ) → Accepted (first f k) → (i : ℕ) → i < k → Accepted (f i)
-unfolding first
+pub accepted-each : (f : ℕ → Outcome) (k : ℕ) → Accepted (firstFault f k) → (i : ℕ) → i < k → Accepted (f i)
+unfolding firstFault
 accepted-each f zero h i l = absurd (omega arith)
 accepted-each f (suc k) h i l =
     let parts = accepted-parts h in
     ⊎-elim (λ (e : i ≡ k). rw e (parts .1)) (λ (below : i < k). accepted-each f k (parts .0) i below)
     (eq-or-lt-of-le (omega arith))
 
-pub accepted-first : (f : ℕ → Outcome) (k : ℕ) → ((i : ℕ) → i < k → Accepted (f i)) → Accepted (first f k)
-unfolding first
+pub accepted-first : (f : ℕ → Outcome) (k : ℕ) → ((i : ℕ) → i < k → Accepted (f i)) → Accepted (firstFault f k)
+unfolding firstFault
 accepted-first f zero h = record { is-zero = refl }
 accepted-first f (suc k) h = accepted-both (accepted-first f k (λ i l. h i (omega arith))) (h k (omega arith))
 
-pub first-same : (f g : ℕ → Outcome) (k : ℕ) → ((i : ℕ) → i < k → f i ≡ g i) → first f k ≡ first g k
-unfolding first
+pub first-same : (f g : ℕ → Outcome) (k : ℕ) → ((i : ℕ) → i < k → f i ≡ g i) → firstFault f k ≡ firstFault g k
+unfolding firstFault
 first-same f g zero h = refl
 first-same f g (suc k) h = rw (first-same f g k (λ i l. h i (omega arith)), h k (omega arith))
 
 -- what is found first decides
-pub first-refused : (f : ℕ → Outcome) (i k : ℕ) → Accepted (first f i) → Refused (f i) → i < k → first f k ≡ f i
-unfolding first
+pub first-refused : (f : ℕ → Outcome) (i k : ℕ) → Accepted (firstFault f i) → Refused (f i) → i < k → firstFault f k ≡ f i
+unfolding firstFault
 first-refused f i zero h r l = absurd (omega arith)
 first-refused f i (suc k) h r l = ⊎-elim
     (λ (e : i ≡ k). rw (← e, goes-on (f i) h))
@@ -129,16 +129,16 @@ first-refused f i (suc k) h r l = ⊎-elim
     (eq-or-lt-of-le (omega arith))
 
 -- a refusal of many is that of one place, and every lower place passes
-pub refused-first : (f : ℕ → Outcome) (k : ℕ) → Refused (first f k) →
-    (i : ℕ) × (i < k) × (first f k ≡ f i) × Refused (f i) × ((j : ℕ) → j < i → Accepted (f j))
-unfolding first
+pub refused-first : (f : ℕ → Outcome) (k : ℕ) → Refused (firstFault f k) →
+    (i : ℕ) × (i < k) × (firstFault f k ≡ f i) × Refused (f i) × ((j : ℕ) → j < i → Accepted (f j))
+unfolding firstFault
 refused-first f zero r = absurd (not-both accepted-fine r)
 refused-first f (suc k) r = ⊎-elim
-    (λ (h : Accepted (first f k)). (k, omega arith, goes-on (f k) h, rw (goes-on (f k) h) at r, accepted-each f k h))
-    (λ (q : Refused (first f k)).
+    (λ (h : Accepted (firstFault f k)). (k, omega arith, goes-on (f k) h, rw (goes-on (f k) h) at r, accepted-each f k h))
+    (λ (q : Refused (firstFault f k)).
     let (i, l, e, ri, lower) = refused-first f k q in
     (i, omega arith, stops (f k) q ∙ e, ri, lower))
-    (accepted-or-refused (first f k))
+    (accepted-or-refused (firstFault f k))
 
 -- where nothing fails the place is 0 too
 
@@ -153,17 +153,17 @@ pub proper-andThen : {a b : Outcome} → Proper a → Proper b → Proper (a and
 proper-andThen {a} {b} ha hb =
     record { fine-if-accepted = λ h. let parts = accepted-parts h in goes-on b (parts .0) ∙ hb .fine-if-accepted (parts .1) }
 
-pub proper-first : (f : ℕ → Outcome) (k : ℕ) → ((i : ℕ) → i < k → Proper (f i)) → Proper (first f k)
-unfolding first
+pub proper-first : (f : ℕ → Outcome) (k : ℕ) → ((i : ℕ) → i < k → Proper (f i)) → Proper (firstFault f k)
+unfolding firstFault
 proper-first f zero h = record { fine-if-accepted = λ a. refl }
 proper-first f (suc k) h = proper-andThen (proper-first f k (λ i l. h i (omega arith))) (h k (omega arith))
 
 -- a lent list
 
-pub written-new : {o : Outcome} (new old : List ℕ) → Accepted o → written o new old ≡ new
-unfolding written
-written-new {o} new old h = choice (o .number) new old (h .is-zero)
+pub accepted-new : {o : Outcome} (new old : List ℕ) → Accepted o → whenAccepted o new old ≡ new
+unfolding whenAccepted
+accepted-new {o} new old h = choice (o .number) new old (h .is-zero)
 
-pub written-old : {o : Outcome} (new old : List ℕ) → Refused o → written o new old ≡ old
-unfolding written
-written-old {o} new old h = other (o .number) new old (h .is-positive)
+pub refused-old : {o : Outcome} (new old : List ℕ) → Refused o → whenAccepted o new old ≡ old
+unfolding whenAccepted
+refused-old {o} new old h = other (o .number) new old (h .is-positive)

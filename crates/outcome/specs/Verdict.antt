@@ -39,10 +39,10 @@ unfoldable pub _andThen_ : Outcome → Outcome → Outcome
 a andThen b = elim (a .number) [ zero ↦ b | suc k ↦ a ]
 
 -- the first refusal among f 0, f 1, .., f (k − 1)
-unfoldable pub first : (ℕ → Outcome) → ℕ → Outcome
-first f zero = fine
-first f (suc k) = first f k andThen f k
+unfoldable pub firstFault : (ℕ → Outcome) → ℕ → Outcome
+firstFault f zero = fine
+firstFault f (suc k) = firstFault f k andThen f k
 
 -- a lent list in the end: the new words where all was fine, else the old ones
-unfoldable pub written : Outcome → List ℕ → List ℕ → List ℕ
-written o new old = elim (o .number) [ zero ↦ new | suc k ↦ old ]
+unfoldable pub whenAccepted : Outcome → List ℕ → List ℕ → List ℕ
+whenAccepted o new old = elim (o .number) [ zero ↦ new | suc k ↦ old ]

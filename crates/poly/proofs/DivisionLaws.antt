@@ -15,15 +15,15 @@ use Rattle.algebra.specs.Points.{Distinct, Vanishes, target, Quotient}
 use Rattle.algebra.proofs.Congruence.{≈-eq, ≈-sym, ≈-trans, ≈-plus, ≈-times, ≈-negative, by}
 use Rattle.algebra.proofs.Inverse.{positive}
 use Rattle.algebra.proofs.Polynomial.{value-sum, value-product}
-use Rattle.algebra.proofs.Weights.{weigh, weights, by-weights, weigh-sum, weigh-multiple}
+use Rattle.algebra.proofs.Pairing.{pairing, pairings, by-pairings, pairing-sum, pairing-multiple}
 use Rattle.algebra.proofs.Products.{product-swap}
 use Rattle.algebra.proofs.Same.{≋-trans, ≋-value}
 use Rattle.algebra.proofs.Roots.{roots}
 use Rattle.algebra.proofs.Target.{length-target, target-leading, target-zero}
 use Rattle.poly.specs.AddScaled.{scaled}
 use Rattle.poly.specs.Division.{divideOnce, division, lowTarget, remainder, quotient}
-use Rattle.poly.proofs.Words.{words-cons, words-first, words-rest, words-take, words-drop, weigh-append}
-use Rattle.poly.proofs.ScaledLaws.{length-scaled, words-scaled, weigh-scaled}
+use Rattle.poly.proofs.Words.{words-cons, words-first, words-rest, words-take, words-drop, pairing-append}
+use Rattle.poly.proofs.ScaledLaws.{length-scaled, words-scaled, pairing-scaled}
 
 -- what is lent from m on is not touched by m words, and the first m words get the multiple
 drop-scaled : (p k : ℕ) (src dst : List ℕ) → drop (length src) (scaled p k src dst) ≡ drop (length src) dst
@@ -58,27 +58,27 @@ monic low = low ++ 1 ∷ []
 
 -- one quotient word q over the words h: q times the divisor, and h one place higher
 quotient-word : (low h : List ℕ) (q : ℕ) (φ : ℕ → ℕ) →
-    weigh (product (monic low) (q ∷ h)) φ ≡ q * weigh low φ + q * φ (length low) + weigh (product (monic low) h) (λ k. φ (suc k))
-unfolding product weigh
+    pairing (product (monic low) (q ∷ h)) φ ≡ q * pairing low φ + q * φ (length low) + pairing (product (monic low) h) (λ k. φ (suc k))
+unfolding product pairing
 quotient-word low h q φ =
     rw (product-swap (monic low) (q ∷ h) φ, product-swap (monic low) h (λ k. φ (suc k)))
-    (simp (weigh-sum, weigh-multiple, weigh-append, add-zero) (omega arith))
+    (simp (pairing-sum, pairing-multiple, pairing-append, add-zero) (omega arith))
 
 -- the m + 1 words from which a quotient word comes: the m below it, and itself
-below-word : (s : List ℕ) (m : ℕ) (φ : ℕ → ℕ) → m < length s → weigh (take (suc m) s) φ ≡ weigh (take m s) φ + getD s m 0 * φ m
-unfolding weigh
+below-word : (s : List ℕ) (m : ℕ) (φ : ℕ → ℕ) → m < length s → pairing (take (suc m) s) φ ≡ pairing (take m s) φ + getD s m 0 * φ m
+unfolding pairing
 below-word s m φ h =
-    rw (take-suc s m 0 h, weigh-append, length-take-le m s (omega arith), add-zero m) (omega arith)
+    rw (take-suc s m 0 h, pairing-append, length-take-le m s (omega arith), add-zero m) (omega arith)
 
 module _ {p : ℕ} (pos : 0 < p) (low : List ℕ) where
-  weigh-division : (n : ℕ) (f : List ℕ) (φ : ℕ → ℕ) → length f ≡ n + length low →
-      weigh f φ ≈⟨ p ⟩ weigh (take (length low) (division p low n f)) φ + weigh (product (monic low) (drop (length low) (division p low n f))) φ
-  unfolding division divideOnce weigh product
-  weigh-division zero f φ size =
+  pairing-division : (n : ℕ) (f : List ℕ) (φ : ℕ → ℕ) → length f ≡ n + length low →
+      pairing f φ ≈⟨ p ⟩ pairing (take (length low) (division p low n f)) φ + pairing (product (monic low) (drop (length low) (division p low n f))) φ
+  unfolding division divideOnce pairing product
+  pairing-division zero f φ size =
       rw (take-all (length low) f (omega arith), drop-of-length-le f {i = length low} (omega arith))
       (≈-eq p (omega (arith, product-swap (monic low) [] φ)))
-  weigh-division (suc n) [] φ size = absurd (omega arith)
-  weigh-division (suc n) (a ∷ f) φ size =
+  pairing-division (suc n) [] φ size = absurd (omega arith)
+  pairing-division (suc n) (a ∷ f) φ size =
       let m = length low in
       let d = division p low n f in
       let s = a ∷ d in
@@ -88,14 +88,14 @@ module _ {p : ℕ} (pos : 0 < p) (low : List ℕ) where
       let part : length (take m s) ≡ m = length-take-le m s (omega arith) in
       rw (take-scaled p (negative p q) low s, drop-scaled p (negative p q) low s, drop-cons s m 0 above, quotient-word low (drop m d) q φ)
       (by
-      (≈-plus (weigh-division n f (λ k. φ (suc k)) (omega arith))
-      (≈-plus (≈-sym (weigh-scaled p (negative p q) low (take m s) φ (omega arith))) (≈-sym (≈-negative pos (q * weigh low φ)))))
+      (≈-plus (pairing-division n f (λ k. φ (suc k)) (omega arith))
+      (≈-plus (≈-sym (pairing-scaled p (negative p q) low (take m s) φ (omega arith))) (≈-sym (≈-negative pos (q * pairing low φ)))))
       (omega (arith, below-word s m φ above)))
 
   -- whatever is divided: dividend = remainder + divisor · quotient
   pub division-sum : (n : ℕ) (f : List ℕ) → length f ≡ n + length low →
       f ≋⟨ p ⟩ sum (take (length low) (division p low n f)) (product (monic low) (drop (length low) (division p low n f)))
-  division-sum n f size = by-weights (λ φ. rw weigh-sum (weigh-division n f φ size))
+  division-sum n f size = by-pairings (λ φ. rw pairing-sum (pairing-division n f φ size))
 
 module _ {p : ℕ} (above : 1 < p) (xs : List ℕ) where
   pub length-low : length (lowTarget p xs) ≡ length xs
@@ -156,10 +156,10 @@ module _ {p : ℕ} (prime : Prime p) (xs f : List ℕ) (long : length xs ≤ len
 
   -- and then the other words are the quotient
   pub quotient-exact : Words p f → Distinct p xs → Vanishes p f xs → Quotient p xs f (quotient p xs f)
-  unfolding weigh
+  unfolding pairing
   quotient-exact w distinct v = record {
     size = length-quotient;
     words = words-quotient w;
-    exact = ≋-trans division-by-target (by-weights (λ φ.
-        rw weigh-sum (by (weights (remainder p xs f) [] (remainder-zero distinct v) φ) (omega arith))));
+    exact = ≋-trans division-by-target (by-pairings (λ φ.
+        rw pairing-sum (by (pairings (remainder p xs f) [] (remainder-zero distinct v) φ) (omega arith))));
   }

@@ -12,7 +12,7 @@ use Rattle.algebra.specs.Polynomial.{Words, value, sum, product, _≋⟨_⟩_}
 use Rattle.algebra.specs.Points.{factor, target}
 use Rattle.algebra.proofs.Congruence.{≈-eq, ≈-trans, ≈-plus, ≈-times, ≈-reduced, by}
 use Rattle.algebra.proofs.Polynomial.{value-sum, value-product}
-use Rattle.algebra.proofs.Weights.{weigh, by-weights, weigh-sum, weigh-product}
+use Rattle.algebra.proofs.Pairing.{pairing, by-pairings, pairing-sum, pairing-product}
 use Rattle.algebra.proofs.Same.{≋-sym, ≋-trans, ≋-value, ≋-reduced, words-equal}
 use Rattle.algebra.proofs.Target.{length-target, target-words}
 use Rattle.poly.specs.Factor.{timesFactor}
@@ -30,16 +30,16 @@ words-factor h x [] w = w
 words-factor h x (a ∷ []) w = w
 words-factor {p} h x (a ∷ b ∷ g) w = words-cons (mod-lt (a + negative p x * b) h) (words-factor h x (b ∷ g) (words-rest w))
 
-weigh-factor : (p x a : ℕ) (g : List ℕ) (φ : ℕ → ℕ) →
-    weigh (timesFactor p x (a ∷ g)) φ ≈⟨ p ⟩ a * φ 0 + (negative p x * weigh g φ + weigh g (λ k. φ (suc k)))
-unfolding timesFactor weigh
-weigh-factor p x a [] φ = ≈-eq p (omega arith)
-weigh-factor p x a (b ∷ g) φ =
-    by (≈-plus (≈-times (φ 0) (≈-reduced p (a + negative p x * b))) (weigh-factor p x b g (λ k. φ (suc k)))) (omega arith)
+pairing-factor : (p x a : ℕ) (g : List ℕ) (φ : ℕ → ℕ) →
+    pairing (timesFactor p x (a ∷ g)) φ ≈⟨ p ⟩ a * φ 0 + (negative p x * pairing g φ + pairing g (λ k. φ (suc k)))
+unfolding timesFactor pairing
+pairing-factor p x a [] φ = ≈-eq p (omega arith)
+pairing-factor p x a (b ∷ g) φ =
+    by (≈-plus (≈-times (φ 0) (≈-reduced p (a + negative p x * b))) (pairing-factor p x b g (λ k. φ (suc k)))) (omega arith)
 
 pub factor-sum : (p x a : ℕ) (g : List ℕ) → timesFactor p x (a ∷ g) ≋⟨ p ⟩ sum (a ∷ []) (product (factor p x) g)
-unfolding weigh
-factor-sum p x a g = by-weights (λ φ. by (weigh-factor p x a g φ) (simp (weigh-sum, weigh-product, zero-add, one-add) (omega arith)))
+unfolding pairing
+factor-sum p x a g = by-pairings (λ φ. by (pairing-factor p x a g φ) (simp (pairing-sum, pairing-product, zero-add, one-add) (omega arith)))
 
 pub factor-value : (p x a : ℕ) (g : List ℕ) (s : ℕ) → value (timesFactor p x (a ∷ g)) s ≈⟨ p ⟩ a + (negative p x + s) * value g s
 unfolding value
@@ -47,7 +47,7 @@ factor-value p x a g s =
     ≈-trans (≋-value (factor-sum p x a g) s) (≈-eq p (simp (value-sum, value-product) (omega arith)))
 
 pub factor-target : {p : ℕ} → 1 < p → (x : ℕ) (xs : List ℕ) → timesFactor p x (0 ∷ target p xs) ≡ target p (x ∷ xs)
-unfolding weigh target
+unfolding pairing target
 factor-target {p} above x xs =
     let z = target p xs in
     let t = product (factor p x) z in
@@ -55,4 +55,4 @@ factor-target {p} above x xs =
     (simp (length-factor, length-target) (omega (arith, length-target p (x ∷ xs))))
     (words-factor (omega arith) x (0 ∷ z) (words-cons (omega arith) (target-words above xs)))
     (target-words above (x ∷ xs))
-    (≋-trans (by-weights (λ φ. by (weigh-factor p x 0 z φ) (simp (weigh-product, zero-add, one-add) (omega arith)))) (≋-sym (≋-reduced p t)))
+    (≋-trans (by-pairings (λ φ. by (pairing-factor p x 0 z φ) (simp (pairing-product, zero-add, one-add) (omega arith)))) (≋-sym (≋-reduced p t)))

@@ -1,4 +1,4 @@
--- The laws of dst + k · src: it keeps the length and the words, and in weights it is the sum that it says.
+-- The laws of dst + k · src: it keeps the length and the words, and in pairings it is the sum that it says.
 use mathlib.Core.Path.{_≡_, refl, ap}
 use mathlib.Core.List.{List, [], _∷_}
 use Prim.Native.Nat.{ℕ, suc, _+_, _*_, _<_, _≤_}
@@ -8,7 +8,7 @@ use lib.ListN.{length}
 use Rattle.algebra.specs.Congruence.{_≈⟨_⟩_}
 use Rattle.algebra.specs.Polynomial.{Words, sum, multiple, _≋⟨_⟩_}
 use Rattle.algebra.proofs.Congruence.{≈-refl, ≈-eq, ≈-plus, ≈-times, ≈-reduced, by}
-use Rattle.algebra.proofs.Weights.{weigh, by-weights, weigh-sum, weigh-multiple}
+use Rattle.algebra.proofs.Pairing.{pairing, by-pairings, pairing-sum, pairing-multiple}
 use Rattle.poly.specs.AddScaled.{scaled}
 use Rattle.poly.proofs.Slices.{same-word}
 use Rattle.poly.proofs.Words.{words-cons, words-rest}
@@ -39,13 +39,13 @@ words-scaled h k (b ∷ src) [] w = w
 words-scaled h k (b ∷ src) (a ∷ dst) w = words-cons (mod-lt (a + k * b) h) (words-scaled h k src dst (words-rest w))
 
 -- the law of the loop: dst plus k times src, where src fits
-pub weigh-scaled : (p k : ℕ) (src dst : List ℕ) (φ : ℕ → ℕ) → length src ≤ length dst →
-    weigh (scaled p k src dst) φ ≈⟨ p ⟩ weigh dst φ + k * weigh src φ
-unfolding scaled weigh
-weigh-scaled p k [] dst φ h = ≈-eq p (omega arith)
-weigh-scaled p k (b ∷ src) [] φ h = absurd (omega arith)
-weigh-scaled p k (b ∷ src) (a ∷ dst) φ h =
-    by (≈-plus (≈-times (φ 0) (≈-reduced p (a + k * b))) (weigh-scaled p k src dst (λ i. φ (suc i)) (omega arith))) (omega arith)
+pub pairing-scaled : (p k : ℕ) (src dst : List ℕ) (φ : ℕ → ℕ) → length src ≤ length dst →
+    pairing (scaled p k src dst) φ ≈⟨ p ⟩ pairing dst φ + k * pairing src φ
+unfolding scaled pairing
+pairing-scaled p k [] dst φ h = ≈-eq p (omega arith)
+pairing-scaled p k (b ∷ src) [] φ h = absurd (omega arith)
+pairing-scaled p k (b ∷ src) (a ∷ dst) φ h =
+    by (≈-plus (≈-times (φ 0) (≈-reduced p (a + k * b))) (pairing-scaled p k src dst (λ i. φ (suc i)) (omega arith))) (omega arith)
 
 pub scaled-sum : (p k : ℕ) (src dst : List ℕ) → length src ≤ length dst → scaled p k src dst ≋⟨ p ⟩ sum dst (multiple k src)
-scaled-sum p k src dst h = by-weights (λ φ. rw (weigh-sum, weigh-multiple) (weigh-scaled p k src dst φ h))
+scaled-sum p k src dst h = by-pairings (λ φ. rw (pairing-sum, pairing-multiple) (pairing-scaled p k src dst φ h))

@@ -1,4 +1,4 @@
--- Lists of words, part by part; and a list read through weights, part by part.
+-- Lists of words, part by part; and a list paired with a sequence, part by part.
 use mathlib.Core.Path.{_≡_, refl}
 use mathlib.Core.List.{List, [], _∷_, _++_}
 use Prim.Native.Nat.{ℕ, zero, suc, _+_, _<_}
@@ -7,7 +7,7 @@ use native.Mathlib.Omega.{arith}
 use lib.ListN.{length, take, drop, replicate, length-drop}
 use lib.Seq.{getD-drop}
 use Rattle.algebra.specs.Polynomial.{Each, Words}
-use Rattle.algebra.proofs.Weights.{weigh}
+use Rattle.algebra.proofs.Pairing.{pairing}
 
 pub words-cons : {p a : ℕ} {f : List ℕ} → a < p → Words p f → Words p (a ∷ f)
 words-cons {p} {a} {f} h w = record { below = at }
@@ -38,12 +38,12 @@ pub words-zero : {p : ℕ} → 0 < p → (n : ℕ) → Words p (replicate n 0)
 words-zero h zero = record { below = λ i l. absurd (omega arith) }
 words-zero h (suc n) = words-cons h (words-zero h n)
 
-pub weigh-append : (f g : List ℕ) (φ : ℕ → ℕ) → weigh (f ++ g) φ ≡ weigh f φ + weigh g (λ k. φ (length f + k))
-unfolding weigh
-weigh-append [] g φ = simp zero-add
-weigh-append (a ∷ f) g φ = simp suc-add (omega (arith, weigh-append f g (λ k. φ (suc k))))
+pub pairing-append : (f g : List ℕ) (φ : ℕ → ℕ) → pairing (f ++ g) φ ≡ pairing f φ + pairing g (λ k. φ (length f + k))
+unfolding pairing
+pairing-append [] g φ = simp zero-add
+pairing-append (a ∷ f) g φ = simp suc-add (omega (arith, pairing-append f g (λ k. φ (suc k))))
 
-pub weigh-zeros : (n : ℕ) (φ : ℕ → ℕ) → weigh (replicate n 0) φ ≡ 0
-unfolding weigh
-weigh-zeros zero φ = refl
-weigh-zeros (suc n) φ = omega (arith, weigh-zeros n (λ k. φ (suc k)))
+pub pairing-zeros : (n : ℕ) (φ : ℕ → ℕ) → pairing (replicate n 0) φ ≡ 0
+unfolding pairing
+pairing-zeros zero φ = refl
+pairing-zeros (suc n) φ = omega (arith, pairing-zeros n (λ k. φ (suc k)))

@@ -15,5 +15,5 @@ unfoldable pub zeros : ℕ → List ℕ
 zeros n = replicate n 0
 
 -- a list at the front of a room of n words, and 0 after it
-unfoldable pub within : ℕ → List ℕ → List ℕ
-within n f = f ++ zeros (n - length f)
+unfoldable pub padded : ℕ → List ℕ → List ℕ
+padded n f = f ++ zeros (n - length f)

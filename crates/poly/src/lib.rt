@@ -8,7 +8,7 @@ ghost use Rattle.algebra.specs.Points.{consecutive, target};
 ghost use Rattle.field.specs.Field.{p};
 ghost use Rattle.poly.specs.AddScaled.{scaled};
 ghost use Rattle.poly.specs.Factor.{timesFactor};
-ghost use Rattle.poly.specs.Product.{addProduct, within};
+ghost use Rattle.poly.specs.Product.{addProduct, padded};
 ghost use Rattle.poly.specs.Division.{division};
 
 pub mod interpolation;
@@ -88,7 +88,7 @@ pub fn add_product(room: &mut [u32], f: &[u32], g: &[u32])
 // The whole product of two lists of up to 257 words, in the work room of 513 words.
 pub fn product(f: &[u32], g: &[u32]) -> [u32; 513]
     requires { ⌜ (length (now f) ≤ 257) × (length (now g) ≤ 257) ⌝ }
-    ensures { λ r. ⌜ r ≡ within 513 (reduced p (product (now (f .entry)) (now (g .entry)))) ⌝ }
+    ensures { λ r. ⌜ r ≡ padded 513 (reduced p (product (now (f .entry)) (now (g .entry)))) ⌝ }
 {
     let mut room = [0u32; 513];
     add_product(&mut room, f, g);

@@ -22,18 +22,18 @@ use Rattle.qap.proofs.Settings.{answers-ready}
 use Rattle.job_file.specs.File.{assignmentOf, blindersOf, pointOf, fileVerdict, jobVerdict}
 use Rattle.job_file.proofs.FileLaws.{file-ready, file-answers-ready}
 use Rattle.printed_job.specs.Lines.{fiveLines, FiveOf, Reports}
-use Rattle.printed_job.specs.Written.{Written}
+use Rattle.printed_job.specs.TextUpTo.{TextUpTo}
 
 module _ {verdict o : Outcome} (Done : List ℕ → Type 0) (e : o ≡ verdict) {before bytes : List ℕ} {end : ℕ} where
-  pub reports-refused : (o .number ≡ 0 → ⊥) → Written (λ t. t ≡ line (o .number ∷ o .place ∷ [])) before bytes end →
-      Written (Reports verdict Done) before bytes end
+  pub reports-refused : (o .number ≡ 0 → ⊥) → TextUpTo (λ t. t ≡ line (o .number ∷ o .place ∷ [])) before bytes end →
+      TextUpTo (Reports verdict Done) before bytes end
   reports-refused h w = record {
     says = record { done = λ a. absurd (not-both a (is-refused e h)); refused = λ r. rw (← e) (w .says) };
     rest = w .rest;
     within = w .within;
   }
 
-  pub reports-done : o .number ≡ 0 → Written Done before bytes end → Written (Reports verdict Done) before bytes end
+  pub reports-done : o .number ≡ 0 → TextUpTo Done before bytes end → TextUpTo (Reports verdict Done) before bytes end
   reports-done h w = record {
     says = record { done = λ a. w .says; refused = λ r. absurd (not-both (is-accepted e h) r) };
     rest = w .rest;
@@ -67,7 +67,7 @@ module _ (c a : List ℕ) (d : Blinders) (s : ℕ) (h : Accepted (answersVerdict
   pub five-written : {r : FourAnswers} {m : ℕ} {z z' f f' b before bytes : List ℕ} {end : ℕ} {o o' check : Outcome} →
       IsAnswers c a d s r → m ≡ rows c → length z ≡ rows c + 1 → length f ≡ rows c + 1 →
       TargetCall m z z' o → QuotientCall c a d f f' o' → b ≡ publicSection c a → CheckAnswersCall c b s r check →
-      Written (λ t. t ≡ fiveLines z' f' r (check .number)) before bytes end → Written (FiveOf c a d s) before bytes end
+      TextUpTo (λ t. t ≡ fiveLines z' f' r (check .number)) before bytes end → TextUpTo (FiveOf c a d s) before bytes end
   five-written {r} {z = z} {z' = z'} {f' = f'} {o = o} {check = check} answered rows-of z-size f-size target quotient handed judged w = record {
     says = record {
       quotient = f';

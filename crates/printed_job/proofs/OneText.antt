@@ -20,7 +20,7 @@ use Rattle.qap.proofs.Settings.{answers-ready, distinct-points}
 use Rattle.job_file.specs.File.{jobVerdict}
 use Rattle.job_file.proofs.FileLaws.{job-answers}
 use Rattle.printed_job.specs.Lines.{programVerdict, FiveOf, FiveLines, Prints}
-use Rattle.printed_job.specs.Written.{Written, blank}
+use Rattle.printed_job.specs.TextUpTo.{TextUpTo, blank}
 
 module _ {c a : List ℕ} {d : Blinders} {s : ℕ} (h : Accepted (answersVerdict c a d s)) where
   five-determined : {t t' : List ℕ} → FiveOf c a d s t → FiveOf c a d s t' → t ≡ t'
@@ -50,7 +50,7 @@ printed-determined b x y = ⊎-elim
     (accepted-or-refused (programVerdict b))
 
 -- and so are two results of the run: as long, and the same bytes
-pub run-determined : (b : List ℕ) {x y : List ℕ} {e e' : ℕ} → Written (Prints b) blank x e → Written (Prints b) blank y e' → (e ≡ e') × (x ≡ y)
+pub run-determined : (b : List ℕ) {x y : List ℕ} {e e' : ℕ} → TextUpTo (Prints b) blank x e → TextUpTo (Prints b) blank y e' → (e ≡ e') × (x ≡ y)
 run-determined b w v = same-bytes (w .within) (v .within) (printed-determined b (w .says) (v .says)) (w .rest) (v .rest)
 
 -- the last of the five lines says 0

@@ -11,7 +11,7 @@ ghost use Rattle.qap.specs.Answers.{IsAnswers};
 ghost use Rattle.qap.specs.Refusals.{answersVerdict};
 ghost use Rattle.job_file.specs.File.{sizeVerdict, jobVerdict};
 ghost use Rattle.printed_job.specs.Lines.{fiveLines, FiveOf, FiveLines, Reports, Prints};
-ghost use Rattle.printed_job.specs.Written.{Written, blank};
+ghost use Rattle.printed_job.specs.TextUpTo.{TextUpTo, blank};
 use outcome::Outcome;
 use qap::Blinders;
 use qap::FourAnswers;
@@ -25,7 +25,7 @@ pub struct Printed {
 // The one line of a refusal.
 fn refuse(o: Outcome, text: &mut [u8]) -> usize
     requires { ⌜ 11008 ≤ length (now text) ⌝ }
-    ensures { λ r. ⌜ Written (λ t. t ≡ line (o .number ∷ o .place ∷ [])) (now (text .entry)) (now (text .exit)) r ⌝ }
+    ensures { λ r. ⌜ TextUpTo (λ t. t ≡ line (o .number ∷ o .place ∷ [])) (now (text .entry)) (now (text .exit)) r ⌝ }
 {
     text::put_two(o.number as usize, o.place, text, 0)
 }
@@ -33,7 +33,7 @@ fn refuse(o: Outcome, text: &mut [u8]) -> usize
 // The five lines, one after the other.
 fn put_five(z: &[u32], h: &[u32], r: FourAnswers, number: u32, text: &mut [u8]) -> usize
     requires { ⌜ (length (now z) ≤ 257) × (length (now h) ≤ 257) × (11008 ≤ length (now text)) ⌝ }
-    ensures { λ end. ⌜ Written (λ t. t ≡ fiveLines (now (z .entry)) (now (h .entry)) r number) (now (text .entry)) (now (text .exit)) end ⌝ }
+    ensures { λ end. ⌜ TextUpTo (λ t. t ≡ fiveLines (now (z .entry)) (now (h .entry)) r number) (now (text .entry)) (now (text .exit)) end ⌝ }
 {
     let answers = [r.first, r.second, r.third, r.fourth];
     let check = [number];
@@ -57,7 +57,7 @@ fn five_in(
 ) -> usize
     requires { ⌜ Accepted (answersVerdict (now circuit) (now values) d s) × IsAnswers (now circuit) (now values) d s r ⌝ }
     requires { ⌜ (length (now z) ≡ rows (now circuit) + 1) × (length (now h) ≡ rows (now circuit) + 1) × (11008 ≤ length (now text)) ⌝ }
-    ensures { λ end. ⌜ Written (FiveOf (now (circuit .entry)) (now (values .entry)) d s) (now (text .entry)) (now (text .exit)) end ⌝ }
+    ensures { λ end. ⌜ TextUpTo (FiveOf (now (circuit .entry)) (now (values .entry)) d s) (now (text .entry)) (now (text .exit)) end ⌝ }
 {
     target::target(circuit::counts::rows_of(circuit) as u32, z);
     quotient::quotient(circuit, values, d, h);
@@ -78,7 +78,7 @@ fn five_cut(
 ) -> usize
     requires { ⌜ Accepted (answersVerdict (now circuit) (now values) d s) × IsAnswers (now circuit) (now values) d s r ⌝ }
     requires { ⌜ (257 ≤ length (now z)) × (257 ≤ length (now h)) × (11008 ≤ length (now text)) ⌝ }
-    ensures { λ end. ⌜ Written (FiveOf (now (circuit .entry)) (now (values .entry)) d s) (now (text .entry)) (now (text .exit)) end ⌝ }
+    ensures { λ end. ⌜ TextUpTo (FiveOf (now (circuit .entry)) (now (values .entry)) d s) (now (text .entry)) (now (text .exit)) end ⌝ }
 {
     let size = circuit::counts::rows_of(circuit) + 1;
     five_in(
@@ -104,7 +104,7 @@ fn print_five(
 ) -> usize
     requires { ⌜ Accepted (answersVerdict (now circuit) (now values) d s) × IsAnswers (now circuit) (now values) d s r ⌝ }
     requires { ⌜ 11008 ≤ length (now text) ⌝ }
-    ensures { λ end. ⌜ Written (FiveOf (now (circuit .entry)) (now (values .entry)) d s) (now (text .entry)) (now (text .exit)) end ⌝ }
+    ensures { λ end. ⌜ TextUpTo (FiveOf (now (circuit .entry)) (now (values .entry)) d s) (now (text .entry)) (now (text .exit)) end ⌝ }
 {
     let mut z = [0u32; 257];
     let mut h = [0u32; 257];
@@ -114,7 +114,7 @@ fn print_five(
 // A job's parts. Of those that a file was read into only the rows can fail.
 fn print_job(circuit: &[u32], values: &[u32], d: Blinders, s: u32, text: &mut [u8]) -> usize
     requires { ⌜ 11008 ≤ length (now text) ⌝ }
-    ensures { λ end. ⌜ Written (Reports (answersVerdict (now (circuit .entry)) (now (values .entry)) d s) (FiveOf (now (circuit .entry)) (now (values .entry)) d s)) (now (text .entry)) (now (text .exit)) end ⌝ }
+    ensures { λ end. ⌜ TextUpTo (Reports (answersVerdict (now (circuit .entry)) (now (values .entry)) d s) (FiveOf (now (circuit .entry)) (now (values .entry)) d s)) (now (text .entry)) (now (text .exit)) end ⌝ }
 {
     let found = answers::answers(circuit, values, d, s);
     if found.outcome.number != 0 {
@@ -126,7 +126,7 @@ fn print_job(circuit: &[u32], values: &[u32], d: Blinders, s: u32, text: &mut [u
 // A file's words.
 fn print_words(words: &[u32], text: &mut [u8]) -> usize
     requires { ⌜ 11008 ≤ length (now text) ⌝ }
-    ensures { λ end. ⌜ Written (Reports (jobVerdict (now (words .entry))) (FiveLines (now (words .entry)))) (now (text .entry)) (now (text .exit)) end ⌝ }
+    ensures { λ end. ⌜ TextUpTo (Reports (jobVerdict (now (words .entry))) (FiveLines (now (words .entry)))) (now (text .entry)) (now (text .exit)) end ⌝ }
 {
     let job = job_file::read(words);
     if job.outcome.number != 0 {
@@ -139,7 +139,7 @@ fn print_words(words: &[u32], text: &mut [u8]) -> usize
 
 fn print_in(input: &[u8], words: &mut [u32], text: &mut [u8]) -> usize
     requires { ⌜ (length (now input) ≡ 4 * length (now words)) × (11008 ≤ length (now text)) ⌝ }
-    ensures { λ end. ⌜ Written (Reports (jobVerdict (unpacked (now (input .entry)))) (FiveLines (unpacked (now (input .entry))))) (now (text .entry)) (now (text .exit)) end ⌝ }
+    ensures { λ end. ⌜ TextUpTo (Reports (jobVerdict (unpacked (now (input .entry)))) (FiveLines (unpacked (now (input .entry))))) (now (text .entry)) (now (text .exit)) end ⌝ }
 {
     packing::unpack(input, words);
     print_words(words, text)
@@ -147,7 +147,7 @@ fn print_in(input: &[u8], words: &mut [u32], text: &mut [u8]) -> usize
 
 fn print_cut(input: &[u8], words: &mut [u32], text: &mut [u8]) -> usize
     requires { ⌜ Accepted (sizeVerdict (length (now input))) × (9486 ≤ length (now words)) × (11008 ≤ length (now text)) ⌝ }
-    ensures { λ end. ⌜ Written (Prints (now (input .entry))) (now (text .entry)) (now (text .exit)) end ⌝ }
+    ensures { λ end. ⌜ TextUpTo (Prints (now (input .entry))) (now (text .entry)) (now (text .exit)) end ⌝ }
 {
     let end = input.len() / 4;
     print_in(input, &mut words[..end], text)
@@ -155,7 +155,7 @@ fn print_cut(input: &[u8], words: &mut [u32], text: &mut [u8]) -> usize
 
 fn print_sized(input: &[u8], text: &mut [u8]) -> usize
     requires { ⌜ Accepted (sizeVerdict (length (now input))) × (11008 ≤ length (now text)) ⌝ }
-    ensures { λ end. ⌜ Written (Prints (now (input .entry))) (now (text .entry)) (now (text .exit)) end ⌝ }
+    ensures { λ end. ⌜ TextUpTo (Prints (now (input .entry))) (now (text .entry)) (now (text .exit)) end ⌝ }
 {
     let mut words = [0u32; 9486];
     print_cut(input, &mut words, text)
@@ -163,7 +163,7 @@ fn print_sized(input: &[u8], text: &mut [u8]) -> usize
 
 fn print(input: &[u8], text: &mut [u8]) -> usize
     requires { ⌜ 11008 ≤ length (now text) ⌝ }
-    ensures { λ end. ⌜ Written (Prints (now (input .entry))) (now (text .entry)) (now (text .exit)) end ⌝ }
+    ensures { λ end. ⌜ TextUpTo (Prints (now (input .entry))) (now (text .entry)) (now (text .exit)) end ⌝ }
 {
     let sized = job_file::size_verdict(input.len());
     if sized.number != 0 {
@@ -174,7 +174,7 @@ fn print(input: &[u8], text: &mut [u8]) -> usize
 
 // All that the program prints for the bytes of standard input.
 pub fn run(input: &[u8]) -> Printed
-    ensures { λ r. ⌜ Written (Prints (now (input .entry))) blank (r .bytes) (r .size) ⌝ }
+    ensures { λ r. ⌜ TextUpTo (Prints (now (input .entry))) blank (r .bytes) (r .size) ⌝ }
 {
     let mut text = [0u8; 11008];
     let size = print(input, &mut text);

@@ -37,7 +37,7 @@ module _ (c a : List ℕ) (distinct : Distinct p (points c)) where
         size = t .size;
         words = t .words;
         takes = λ i l. ≈-trans (t .takes i l) (total-≈ (publics c - 0) (λ k less.
-            ≈-eq p (rw (same .weights (suc (0 + k)) (omega arith) (omega arith)))));
+            ≈-eq p (rw (same .values (suc (0 + k)) (omega arith) (omega arith)))));
       })
 
   module _ (few : publics c ≤ columns c) where

@@ -11,7 +11,7 @@ use lib.ListN.{length, getD, take}
 use lib.Seq.{ext-getD}
 use Rattle.outcome.specs.declared.Outcome.{Outcome}
 use Rattle.outcome.specs.Verdict.{Accepted, Refused, fine}
-use Rattle.outcome.proofs.Verdict.{accepted-fine, accepted-both, accepted-or-refused, not-both, written-new}
+use Rattle.outcome.proofs.Verdict.{accepted-fine, accepted-both, accepted-or-refused, not-both, accepted-new}
 use Rattle.algebra.specs.Polynomial.{Words}
 use Rattle.algebra.specs.Points.{Distinct}
 use Rattle.algebra.proofs.Consecutive.{length-consecutive}
@@ -21,7 +21,7 @@ use Rattle.circuit.specs.Circuit.{rows, publics, points}
 use Rattle.circuit.proofs.Formed.{circuit-formed}
 use Rattle.assignment.specs.Assignment.{circuitThenAssignment, publicSection}
 use Rattle.assignment.proofs.Accepted.{words-formed, words-accepted, assignment-formed}
-use Rattle.assignment.proofs.Weights.{public-weight, section-accepted}
+use Rattle.assignment.proofs.Assigned.{public-assigned, section-accepted}
 use Rattle.rows.specs.Rows.{rowsVerdict}
 use Rattle.rows.proofs.Holds.{accepted-holds, holds-accepted}
 use Rattle.qap.specs.Polynomials.{IsQuotient}
@@ -67,8 +67,8 @@ module _ (c a : List ℕ) (d : Blinders) (s : ℕ) (r : FourAnswers) (call : Ans
   pub same-section : SamePublic c a (publicSection c a)
   unfolding publicSection
   same-section = record {
-    weights = λ j low high. rw (written-new (take (publics c + 1) a) _ read)
-        (sym (public-weight (circuit-formed c (ready .given .circuit) .formed) (assignment-formed c a (ready .given .assignment)) j high));
+    values = λ j low high. rw (accepted-new (take (publics c + 1) a) _ read)
+        (sym (public-assigned (circuit-formed c (ready .given .circuit) .formed) (assignment-formed c a (ready .given .assignment)) j high));
   }
 
   section-agrees : AnswersAgree c (publicSection c a) s r

@@ -140,7 +140,7 @@ same-answers c a b distinct few same hold s off {d} {r} h =
     (rw (h .first) (mod-lt (value (h .A) s + d .first * z) p-positive))
     (rw (h .second) (mod-lt (value (h .B) s + d .second * z) p-positive))
     (rw (h .third) (mod-lt (value (h .C) s + d .third * z) p-positive)) in
-    let itself : SamePublic c b b = record { weights = λ j l u. refl } in
+    let itself : SamePublic c b b = record { values = λ j l u. refl } in
     let fourth : three .has .fourth ≡ r .fourth =
     one-fourth c b distinct s off (fourth-follows c b b distinct few itself (three .has .answered .answers))
     (fourth-follows c a b distinct few same h) in

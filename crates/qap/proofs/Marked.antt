@@ -7,7 +7,7 @@ use native.Mathlib.Omega.{arith}
 use lib.Dec.{T, leb, leb→le}
 use lib.ListN.{length, getD}
 use Rattle.outcome.specs.declared.Outcome.{Outcome}
-use Rattle.outcome.specs.Verdict.{fine, outcome, require, _andThen_, first}
+use Rattle.outcome.specs.Verdict.{fine, outcome, require, _andThen_, firstFault}
 use Rattle.outcome.proofs.Verdict.{accepted-fine}
 use Rattle.algebra.specs.Polynomial.{value, sum, multiple, product, reduced}
 use Rattle.algebra.specs.Points.{Distinct, consecutive, target}
@@ -20,7 +20,7 @@ use Rattle.field.specs.Field.{p}
 use Rattle.field.proofs.PrimeField.{p-prime}
 use Rattle.circuit.specs.Circuit.{rows, points, section, listed, coef}
 use Rattle.circuit.specs.Reader.{rangesVerdict, entryVerdict, sectionVerdict, countsVerdict, prefixVerdict, circuitVerdict}
-use Rattle.assignment.specs.Assignment.{weightAt, wordsVerdict, valuesVerdict, assignmentVerdict}
+use Rattle.assignment.specs.Assignment.{assignedAt, wordsVerdict, valuesVerdict, assignmentVerdict}
 use Rattle.rows.specs.Rows.{rowSum, rowVerdict, rowsVerdict}
 use Rattle.qap.specs.Polynomials.{Column, Part, Whole, targetOf, IsQuotient}
 use Rattle.qap.specs.Answers.{IsAnswers}
@@ -82,7 +82,7 @@ quotient c a d A B C h whole-A whole-B whole-C size words equal = record {
 of-K : (d : Blinders) (h : List ℕ) → length h ≡ suc (length (points K)) → T (allWords p h) →
     T (samePolynomial p (product (blinded p (points K) (2013265918 ∷ 6 ∷ []) (d .first)) (blinded p (points K) (1 ∷ 2 ∷ []) (d .second)))
     (sum (blinded p (points K) (2013265894 ∷ 36 ∷ []) (d .third)) (product (targetOf K) h))) → IsQuotient K readings d h
-unfolding K readings section listed coef weightAt rowSum total consecutive value
+unfolding K readings section listed coef assignedAt rowSum total consecutive value
 of-K d h = quotient K readings d (2013265918 ∷ 6 ∷ []) (1 ∷ 2 ∷ []) (2013265894 ∷ 36 ∷ []) h
     (part K readings tt 0 0 4 (2013265918 ∷ 6 ∷ []) refl tt tt)
     (part K readings tt 1 0 4 (1 ∷ 2 ∷ []) refl tt tt)
@@ -97,7 +97,7 @@ unfolding K consecutive sum multiple product reduced target
 right-e = of-K (blinders 1 2 3) (8 ∷ 8 ∷ 2 ∷ []) refl tt tt
 
 right-i : IsQuotient K1 (1 ∷ 1 ∷ 1 ∷ 1 ∷ []) (blinders 1 1 0) (0 ∷ 1 ∷ [])
-unfolding K1 section listed coef weightAt rowSum total consecutive value sum multiple product reduced target
+unfolding K1 section listed coef assignedAt rowSum total consecutive value sum multiple product reduced target
 right-i = quotient K1 (1 ∷ 1 ∷ 1 ∷ 1 ∷ []) (blinders 1 1 0) (1 ∷ []) (0 ∷ []) (0 ∷ []) (0 ∷ 1 ∷ [])
     (part K1 (1 ∷ 1 ∷ 1 ∷ 1 ∷ []) tt 0 0 2 (1 ∷ []) refl tt tt)
     (part K1 (1 ∷ 1 ∷ 1 ∷ 1 ∷ []) tt 1 0 2 (0 ∷ []) refl tt tt)
@@ -105,7 +105,7 @@ right-i = quotient K1 (1 ∷ 1 ∷ 1 ∷ 1 ∷ []) (blinders 1 1 0) (1 ∷ []) (
     refl tt tt
 
 right-f : IsAnswers K readings (blinders 1 2 3) 0 (answers 2013265920 7 24 8)
-unfolding K readings section listed coef weightAt rowSum total consecutive value sum multiple product reduced target
+unfolding K readings section listed coef assignedAt rowSum total consecutive value sum multiple product reduced target
 right-f = record {
   A = 2013265918 ∷ 6 ∷ [];
   B = 3 ∷ 0 ∷ [];
@@ -128,8 +128,8 @@ only-column : (c : List ℕ) (matrix j : ℕ) → T (leb (rows c) p) → (f g : 
 only-column c matrix j t f g = interpolation-unique p-prime (distinct c t)
 
 pub marked : Marked
-unfolding K K1 readings section listed coef weightAt rowSum total consecutive value sum multiple product reduced target
-    first require _andThen_ rangesVerdict entryVerdict sectionVerdict countsVerdict prefixVerdict circuitVerdict wordsVerdict valuesVerdict assignmentVerdict rowVerdict rowsVerdict
+unfolding K K1 readings section listed coef assignedAt rowSum total consecutive value sum multiple product reduced target
+    firstFault require _andThen_ rangesVerdict entryVerdict sectionVerdict countsVerdict prefixVerdict circuitVerdict wordsVerdict valuesVerdict assignmentVerdict rowVerdict rowsVerdict
     pointVerdict lengthVerdict targetVerdict columnVerdict readyVerdict quotientVerdict answersVerdict checkDivisionVerdict
 marked = record {
   a = writes (targetVerdict 2) refl refl (λ f g s t. s ∙ sym t);

@@ -10,7 +10,7 @@ use Rattle.algebra.proofs.Combination.{through-combination, combination-through
 use Rattle.field.specs.Field.{p}
 use Rattle.field.proofs.PrimeField.{p-prime}
 use Rattle.circuit.specs.Circuit.{points, coef}
-use Rattle.assignment.specs.Assignment.{weight}
+use Rattle.assignment.specs.Assignment.{assigned}
 use Rattle.rows.specs.Rows.{rowSum}
 use Rattle.qap.specs.Polynomials.{Column, Part}
 
@@ -18,7 +18,7 @@ module _ (c a : List ℕ) (matrix from to : ℕ) where
   pub part-through : {f : List ℕ} → Part c a matrix from to f → Through p (points c) (λ i. rowSum c a matrix (suc i) from to) f
   unfolding rowSum
   part-through r =
-      combination-through (λ i t. coef c matrix (suc i) (suc (from + t))) (λ t. weight c a (suc (from + t)))
+      combination-through (λ i t. coef c matrix (suc i) (suc (from + t))) (λ t. assigned c a (suc (from + t)))
       (λ t. r .column (suc (from + t))) (to - from) (λ t l. r .is-column (suc (from + t)) (omega arith) (omega arith))
       (r .size) (r .words) (r .is-sum)
 
@@ -29,7 +29,7 @@ module _ (c a : List ℕ) (matrix from to : ℕ) where
     is-column = λ j l u. column j .1;
     size = t .size;
     words = t .words;
-    is-sum = through-combination (λ i t. coef c matrix (suc i) (suc (from + t))) (λ t. weight c a (suc (from + t)))
+    is-sum = through-combination (λ i t. coef c matrix (suc i) (suc (from + t))) (λ t. assigned c a (suc (from + t)))
         (λ t. column (suc (from + t)) .0) (to - from) (λ t l. column (suc (from + t)) .1) p-prime distinct t;
   }
     where

@@ -7,7 +7,7 @@ use Rattle.outcome.specs.Verdict.{Accepted, fine}
 use Rattle.field.specs.Field.{p}
 use Rattle.circuit.specs.Circuit.{publics}
 use Rattle.circuit.specs.Reader.{circuitVerdict}
-use Rattle.assignment.specs.Assignment.{weight, assignmentVerdict}
+use Rattle.assignment.specs.Assignment.{assigned, assignmentVerdict}
 use Rattle.rows.specs.Rows.{RowsHold}
 use Rattle.qap.specs.Answers.{IsAnswers, AnswersAgree}
 use Rattle.qap.specs.Refusals.{pointVerdict}
@@ -43,7 +43,7 @@ pub record IsFourth (c b : List ℕ) (s v1 v2 v3 w : ℕ) : Type 0 where
 
 -- two assignments, or an assignment and a public section, have the same public values
 pub record SamePublic (c a b : List ℕ) : Type 0 where
-  pub weights : (j : ℕ) → 1 ≤ j → j ≤ publics c → weight c a j ≡ weight c b j
+  pub values : (j : ℕ) → 1 ≤ j → j ≤ publics c → assigned c a j ≡ assigned c b j
 
 -- what demand 3 asks of circuit, assignment and point: accepted, every row satisfied, a field point on no row
 pub record Satisfied (c a : List ℕ) (s : ℕ) : Type 0 where

@@ -10,7 +10,7 @@ use Rattle.algebra.specs.Combination.{combination}
 use Rattle.algebra.specs.Blinding.{BlindedQuotient}
 use Rattle.field.specs.Field.{p}
 use Rattle.circuit.specs.Circuit.{publics, columns, points, coef}
-use Rattle.assignment.specs.Assignment.{weight}
+use Rattle.assignment.specs.Assignment.{assigned}
 use Rattle.qap.specs.declared.Blinders.{Blinders}
 
 -- column j of a matrix: as many words as there are rows, and the value a(i,j) at the point of row i
@@ -23,7 +23,7 @@ pub record Part (c a : List ℕ) (matrix from to : ℕ) (f : List ℕ) : Type 0 
   pub is-column : (j : ℕ) → from < j → j ≤ to → Column c matrix j (column j)
   pub size : length f ≡ length (points c)
   pub words : Words p f
-  pub is-sum : f ≋⟨ p ⟩ combination (λ t. weight c a (suc (from + t))) (λ t. column (suc (from + t))) (to - from)
+  pub is-sum : f ≋⟨ p ⟩ combination (λ t. assigned c a (suc (from + t))) (λ t. column (suc (from + t))) (to - from)
 
 -- over all columns: A(X), B(X), C(X) for matrix 0, 1, 2
 abbrev pub Whole : List ℕ → List ℕ → ℕ → List ℕ → Type 0

@@ -6,7 +6,7 @@ use Prim.Native.Nat.{ℕ, _+_, _*_, _-_}
 use lib.Dec.{leb, eqb}
 use lib.ListN.{length}
 use Rattle.outcome.specs.declared.Outcome.{Outcome}
-use Rattle.outcome.specs.Verdict.{require, within, _andThen_, first}
+use Rattle.outcome.specs.Verdict.{require, within, _andThen_, firstFault}
 use Rattle.field.specs.Field.{p}
 use Rattle.circuit.specs.Circuit.{rows, columns}
 use Rattle.circuit.specs.Reader.{circuitVerdict}

@@ -2,7 +2,7 @@
 ghost use mathlib.Core.Path.{_≡_};
 ghost use Prim.Native.Nat.{_+_, _≤_};
 ghost use lib.ListN.{length};
-ghost use Rattle.outcome.specs.Verdict.{first};
+ghost use Rattle.outcome.specs.Verdict.{firstFault};
 ghost use Rattle.circuit.specs.Circuit.{section};
 ghost use Rattle.circuit.specs.Reader.{sectionVerdict, countsVerdict, prefixVerdict, circuitVerdict};
 ghost use Rattle.circuit.specs.WellFormed.{Formed};
@@ -19,7 +19,7 @@ const MOST_ENTRIES: usize = 1024;
 // Sections A, B, C from index 3 on. Both loops are left at the first fault met.
 fn sections_verdict(words: &[u32]) -> Outcome
     requires { ⌜ 3 ≤ length (now words) ⌝ }
-    ensures { λ r. ⌜ r ≡ first (λ matrix. sectionVerdict (now (words .entry)) (section (now (words .entry)) matrix)) 3 ⌝ }
+    ensures { λ r. ⌜ r ≡ firstFault (λ matrix. sectionVerdict (now (words .entry)) (section (now (words .entry)) matrix)) 3 ⌝ }
 {
     let mut matrix: usize = 0;
     let mut start = 3;

@@ -10,9 +10,9 @@ use Rattle.algebra.proofs.Combination.{total-split}
 use Rattle.circuit.specs.Circuit.{publics, columns, coef}
 use Rattle.circuit.specs.WellFormed.{Formed}
 use Rattle.circuit.proofs.Totals.{total-same}
-use Rattle.assignment.specs.Assignment.{weight}
+use Rattle.assignment.specs.Assignment.{assigned}
 use Rattle.assignment.specs.WellFormed.{AssignmentFormed, PublicFormed}
-use Rattle.assignment.proofs.Weights.{public-at, weight-inside, public-weight}
+use Rattle.assignment.proofs.Assigned.{public-at, assigned-inside, public-assigned}
 use Rattle.rows.specs.Rows.{rowSum, wholeSum, publicSum, privateSum}
 use Rattle.rows.specs.Sums.{Span}
 
@@ -21,23 +21,23 @@ pub parts-whole : (c a : List ℕ) → publics c ≤ columns c → (matrix i : �
 unfolding rowSum
 parts-whole c a few matrix i =
     let all : publics c + (columns c - publics c) ≡ columns c = omega arith in
-    let term : ℕ → ℕ = λ t. weight c a (suc t) * coef c matrix i (suc t) in
+    let term : ℕ → ℕ = λ t. assigned c a (suc t) * coef c matrix i (suc t) in
     simp (zero-add, sub-zero) (sym (rw all at (total-split term (publics c) (columns c - publics c))))
 
 pub public-alone : {c a : List ℕ} → Formed c → AssignmentFormed c a → (matrix i : ℕ) →
     publicSum c (take (publics c + 1) a) matrix i ≡ publicSum c a matrix i
 unfolding rowSum
 public-alone {c} {a} circuit formed matrix i = total-same _ _ (publics c - 0)
-    (λ t l. ap (λ (w : ℕ). w * coef c matrix i (suc (0 + t))) (public-weight circuit formed (suc (0 + t)) (omega arith)))
+    (λ t l. ap (λ (w : ℕ). w * coef c matrix i (suc (0 + t))) (public-assigned circuit formed (suc (0 + t)) (omega arith)))
 
 -- sums over all, the private and the public columns of an assignment, and the public ones of a public section
 
 pub span-whole : {c a : List ℕ} → AssignmentFormed c a → Span c a 0 (columns c)
-span-whole {c} formed = record { ascending = omega arith; inside = omega arith; given = weight-inside formed (columns c) (omega arith) }
+span-whole {c} formed = record { ascending = omega arith; inside = omega arith; given = assigned-inside formed (columns c) (omega arith) }
 
 pub span-private : {c a : List ℕ} → Formed c → AssignmentFormed c a → Span c a (publics c) (columns c)
 span-private {c} circuit formed =
-    record { ascending = circuit .public-count .at-most; inside = omega arith; given = weight-inside formed (columns c) (omega arith) }
+    record { ascending = circuit .public-count .at-most; inside = omega arith; given = assigned-inside formed (columns c) (omega arith) }
 
 pub span-public : {c a : List ℕ} → Formed c → PublicFormed c a → Span c a 0 (publics c)
 span-public {c} circuit formed = record {

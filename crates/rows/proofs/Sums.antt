@@ -22,14 +22,14 @@ use Rattle.circuit.specs.Totals.{table, only}
 use Rattle.circuit.proofs.Totals.{length-table, table-at}
 use Rattle.circuit.proofs.Tables.{table-same, set-table}
 use Rattle.circuit.proofs.Entries.{row-entries}
-use Rattle.assignment.specs.Assignment.{weight}
+use Rattle.assignment.specs.Assignment.{assigned}
 use Rattle.rows.specs.Rows.{rowSum, rowSums}
 use Rattle.rows.specs.Sums.{entryPart, entrySums, withEntry}
 
 module _ (c : List ℕ) (s : ℕ) (a : List ℕ) (from to e : ℕ) where
   -- what the entry adds where its column counts
   product : ℕ
-  product = weight c a (columnOf c s e) * valueOf c s e
+  product = assigned c a (columnOf c s e) * valueOf c s e
 
   own-row : within (suc from) (columnOf c s e) to ≡ true → entryPart c s a from to (rowOf c s e) e ≡ product
   unfolding product
@@ -86,7 +86,7 @@ unfolding entrySums rowSums rowSum coef
 all-entries {c} formed a matrix from to l up =
     let whole : from + (to - from) ≡ to = omega arith in
     table-same _ _ (rows c) (λ i below. ap (λ (x : ℕ). x % p)
-    (sym (rw whole at (row-entries (formed .column-count .at-most) (formed .matrices matrix l) (weight c a) (suc i) from (to - from)))))
+    (sym (rw whole at (row-entries (formed .column-count .at-most) (formed .matrices matrix l) (assigned c a) (suc i) from (to - from)))))
 
 pub length-entry-sums : (c : List ℕ) (s : ℕ) (a : List ℕ) (from to k : ℕ) → length (entrySums c s a from to k) ≡ rows c
 unfolding entrySums

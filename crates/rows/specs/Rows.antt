@@ -5,16 +5,16 @@ use Prim.Native.Nat.{ℕ, suc, _+_, _-_, _*_, _%_, _≤_, _<_}
 use lib.Dec.{eqb}
 use Rattle.algebra.specs.Congruence.{_≈⟨_⟩_}
 use Rattle.outcome.specs.declared.Outcome.{Outcome}
-use Rattle.outcome.specs.Verdict.{require, Within, first}
+use Rattle.outcome.specs.Verdict.{require, Within, firstFault}
 use Rattle.field.specs.Field.{p}
 use Rattle.circuit.specs.Circuit.{rows, publics, columns, coef}
 use Rattle.algebra.specs.Combination.{total}
 use Rattle.circuit.specs.Totals.{table}
-use Rattle.assignment.specs.Assignment.{weight}
+use Rattle.assignment.specs.Assignment.{assigned}
 
 -- the sum of w_j a(i,j) over the columns after `from` up to `to`, exact
 unfoldable pub rowSum : List ℕ → List ℕ → ℕ → ℕ → ℕ → ℕ → ℕ
-rowSum c a matrix i from to = total (λ t. weight c a (suc (from + t)) * coef c matrix i (suc (from + t))) (to - from)
+rowSum c a matrix i from to = total (λ t. assigned c a (suc (from + t)) * coef c matrix i (suc (from + t))) (to - from)
 
 -- over all columns, the public ones alone, the private ones alone
 
@@ -51,7 +51,7 @@ rowVerdict c a i = require (eqb (wholeSum c a 0 i * wholeSum c a 1 i % p) (whole
 
 -- 10 at the lowest failing row
 unfoldable pub rowsVerdict : List ℕ → List ℕ → Outcome
-rowsVerdict c a = first (λ i. rowVerdict c a (suc i)) (rows c)
+rowsVerdict c a = firstFault (λ i. rowVerdict c a (suc i)) (rows c)
 
 -- its place alone: 0 where no row fails
 abbrev pub lowestFailing : List ℕ → List ℕ → ℕ

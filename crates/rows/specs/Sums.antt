@@ -7,24 +7,24 @@ use Prim.Native.Nat.{ℕ, suc, _+_, _-_, _*_, _%_, _≤_, _<_}
 use lib.Dec.{eqb}
 use lib.ListN.{length, set}
 use Rattle.outcome.specs.declared.Outcome.{Outcome}
-use Rattle.outcome.specs.Verdict.{require, within, first}
+use Rattle.outcome.specs.Verdict.{require, within, firstFault}
 use Rattle.field.specs.Field.{p}
 use Rattle.circuit.specs.Circuit.{word, rows, columns, rowOf, columnOf, valueOf}
 use Rattle.algebra.specs.Combination.{total}
 use Rattle.circuit.specs.Totals.{table, only}
-use Rattle.assignment.specs.Assignment.{weightAt, weight}
+use Rattle.assignment.specs.Assignment.{assignedAt, assigned}
 use Rattle.rows.specs.Rows.{rowSums, rowsVerdict}
 
 -- sums over the columns after `from` up to `to` can be made: those columns are there, and so are their values
 pub record Span (c a : List ℕ) (from to : ℕ) : Type 0 where
   pub ascending : from ≤ to
   pub inside : to ≤ columns c
-  pub given : weightAt c to < length a
+  pub given : assignedAt c to < length a
 
 -- what entry e of a section adds to row i
 abbrev pub entryPart : List ℕ → ℕ → List ℕ → ℕ → ℕ → ℕ → ℕ → ℕ
 entryPart c s a from to i e =
-    only (eqb (rowOf c s e) i) (only (within (suc from) (columnOf c s e) to) (weight c a (columnOf c s e) * valueOf c s e))
+    only (eqb (rowOf c s e) i) (only (within (suc from) (columnOf c s e) to) (assigned c a (columnOf c s e) * valueOf c s e))
 
 -- the rows' sums over the first k entries of a section, as field words
 unfoldable pub entrySums : List ℕ → ℕ → List ℕ → ℕ → ℕ → ℕ → List ℕ
@@ -34,13 +34,13 @@ entrySums c s a from to k = table (λ i. total (entryPart c s a from to (suc i))
 unfoldable pub withEntry : List ℕ → ℕ → List ℕ → ℕ → ℕ → ℕ → List ℕ → List ℕ
 withEntry c s a from to e xs =
     elim (within (suc from) (columnOf c s e) to) [
-      | true ↦ set xs (rowOf c s e - 1) ((word xs (rowOf c s e - 1) + weight c a (columnOf c s e) * valueOf c s e) % p)
+      | true ↦ set xs (rowOf c s e - 1) ((word xs (rowOf c s e - 1) + assigned c a (columnOf c s e) * valueOf c s e) % p)
       | false ↦ xs
     ]
 
 -- 10 over lists of row sums
 unfoldable pub sumsVerdict : List ℕ → List ℕ → List ℕ → Outcome
-sumsVerdict a b c = first (λ i. require (eqb (word a i * word b i % p) (word c i)) 10 (suc i)) (length a)
+sumsVerdict a b c = firstFault (λ i. require (eqb (word a i * word b i % p) (word c i)) 10 (suc i)) (length a)
 
 -- three lists of row sums over all columns, of A, B and C
 pub record WholeSums (c w a b d : List ℕ) : Type 0 where

@@ -5,16 +5,16 @@ ghost use lib.ListN.{length};
 ghost use Rattle.circuit.specs.Circuit.{rows, publics, columns, entries, entryAt};
 ghost use Rattle.circuit.specs.WellFormed.{EntryFormed, SectionFormed, Formed};
 ghost use Rattle.circuit.specs.Totals.{table};
-ghost use Rattle.assignment.specs.Assignment.{weightAt};
+ghost use Rattle.assignment.specs.Assignment.{assignedAt};
 ghost use Rattle.assignment.specs.WellFormed.{AssignmentFormed, PublicFormed};
 ghost use Rattle.rows.specs.Rows.{rowSums};
 ghost use Rattle.rows.specs.Sums.{Span, entrySums, withEntry, sumsVerdict, RowsRead};
 use outcome::Outcome;
 
 // The index of a column's value in an assignment.
-fn weight_at(circuit: &[u32], column: usize) -> usize
+fn assigned_at(circuit: &[u32], column: usize) -> usize
     requires { ⌜ (3 ≤ length (now circuit)) × (column < 1024) ⌝ }
-    ensures { λ r. ⌜ r ≡ weightAt (now (circuit .entry)) column ⌝ }
+    ensures { λ r. ⌜ r ≡ assignedAt (now (circuit .entry)) column ⌝ }
 {
     if column <= circuit::counts::publics_of(circuit) {
         return column;
@@ -45,7 +45,7 @@ fn add_entry(
         return;
     }
     let row = circuit[at] as usize - 1;
-    let value = weight_at(circuit, column);
+    let value = assigned_at(circuit, column);
     out[row] = field::add_scaled(out[row], values[value], circuit[at + 2]);
 }
 

@@ -2,7 +2,7 @@
 use mathlib.Core.Path.{sym}
 use lib.Seq.{length-take-le}
 use native.Mathlib.Omega.{arith}
-use Rattle.outcome.proofs.Verdict.{is-accepted, is-refused, written-new, written-old}
+use Rattle.outcome.proofs.Verdict.{is-accepted, is-refused, accepted-new, refused-old}
 use Rattle.circuit.specs.WellFormed.{WellFormed}
 use Rattle.assignment.specs.Assignment.{publicSection}
 use Rattle.assignment.specs.WellFormed.{AssignmentFormed}
@@ -17,7 +17,7 @@ formed c = both-formed _ _ (is-accepted (c .before .before .assignment-verdict .
 
 returns : tie.Need-returns
 unfolding publicSection
-returns c = sym (written-old _ _ (is-refused (c .before .before .before .assignment-verdict .ensures) (c .before .if1 .taken)))
+returns c = sym (refused-old _ _ (is-refused (c .before .before .before .assignment-verdict .ensures) (c .before .if1 .taken)))
 
 slice-aggregate-result-2 : tie.Need-slice-aggregate-result-2
 slice-aggregate-result-2 c = sym (length-take-le _ _ (omega (arith, c .before .publics-of .ensures, formed (c .before .before))))
@@ -27,7 +27,7 @@ unfolding publicSection
 returns-2 c =
     let else = c .before .before in
     rw (c .before .publics-of .ensures)
-    (sym (written-new _ _ (is-accepted (else .before .before .assignment-verdict .ensures) (else .if1 .left))))
+    (sym (accepted-new _ _ (is-accepted (else .before .before .assignment-verdict .ensures) (else .if1 .left))))
 
 pub public-section-spec : {M : Type 1} → statement M
 public-section-spec = tie.close

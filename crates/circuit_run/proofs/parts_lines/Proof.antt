@@ -4,7 +4,7 @@ use Rattle.circuit.specs.WellFormed.{WellFormed}
 use Rattle.assignment.specs.Assignment.{publicSection}
 use Rattle.assignment.specs.WellFormed.{AssignmentFormed, PublicFormed}
 use Rattle.assignment.proofs.Accepted.{both-formed, public-formed}
-use Rattle.assignment.proofs.Weights.{section-accepted}
+use Rattle.assignment.proofs.Assigned.{section-accepted}
 use borrow.Author.Needs.{needs}
 use Rattle.circuit_run.proofs.parts_lines.Statement.{statement}
 use Rattle.circuit_run.proofs.parts_lines.Tie as tie

@@ -1,4 +1,4 @@
--- The checks in their order; words that passed as a remainder are 6.
+-- The checks in their order; words that passed as a trailer are 6.
 use mathlib.Core.Path.{_≡_, _∙_, ap}
 use native.Mathlib.Omega.{arith}
 use borrow.Author.Needs.{needs}
@@ -9,12 +9,12 @@ use Rattle.assignment.specs.Assignment.{wordsVerdict}
 use Rattle.qap.specs.declared.Blinders.{Blinders}
 use Rattle.qap.specs.Refusals.{blinderWords}
 use Rattle.job_file.specs.Parts.{blindersIn, partsVerdict}
-use Rattle.job_file.proofs.FileLaws.{remainder-six}
+use Rattle.job_file.proofs.FileLaws.{trailer-six}
 use Rattle.job_file.proofs.parts_verdict.Statement.{statement}
 use Rattle.job_file.proofs.parts_verdict.Tie as tie
 
 six : (c : tie.Else2) → length (c .before .before .before .before .before .before .before .before .before .args .t .now) ≡ 6
-six c = remainder-six _ (is-accepted (c .before .before .remainder-verdict .ensures) (c .if2 .left))
+six c = trailer-six _ (is-accepted (c .before .before .trailer-verdict .ensures) (c .if2 .left))
 
 blinded : (c : tie.After-blinders-verdict) →
     let start = c .before .before .before .before .before .before .before .before .before .before .before in

@@ -16,7 +16,7 @@ use Rattle.circuit.specs.WellFormed.{Formed}
 use Rattle.circuit.proofs.Formed.{prefix-formed}
 use Rattle.circuit.proofs.Prefix.{leading-count, leading-formed}
 use Rattle.circuit.proofs.Sections.{ends-within}
-use Rattle.job_file.specs.File.{remainder, blindersOf, pointOf, fileVerdict}
+use Rattle.job_file.specs.File.{trailer, blindersOf, pointOf, fileVerdict}
 use Rattle.job_file.specs.Parts.{blindersIn, restVerdict}
 use Rattle.job_file.specs.Read.{Read, refused}
 use Rattle.job_file.specs.declared.Job.{Job}
@@ -47,7 +47,7 @@ module _ (w : List ℕ) where
     begins-formed = rw at (leading-formed w (prefix-formed w begun) .formed)
 
   module _ {last : ℕ} (at : last ≡ ending w + (columns (leading w) + 2)) where
-    remains : drop last w ≡ remainder w
+    remains : drop last w ≡ trailer w
     remains = rw at (sym (drop-drop (columns (leading w) + 2) (ending w) w))
 
     blinders : blindersIn (take (length w - last) (drop last w)) ≡ blindersOf w

@@ -1,6 +1,6 @@
 -- The lent bytes are all 0 at the start.
 use borrow.Author.Needs.{needs}
-use Rattle.printed_job.specs.Written.{blank}
+use Rattle.printed_job.specs.TextUpTo.{blank}
 use Rattle.printed_job.proofs.run.Statement.{statement}
 use Rattle.printed_job.proofs.run.Tie as tie
 

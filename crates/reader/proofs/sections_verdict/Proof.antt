@@ -7,7 +7,7 @@ use native.Mathlib.Omega.{arith}
 use borrow.Author.Needs.{needs}
 use lib.ListN.{length}
 use Rattle.outcome.specs.declared.Outcome.{Outcome}
-use Rattle.outcome.specs.Verdict.{Refused, first}
+use Rattle.outcome.specs.Verdict.{Refused, firstFault}
 use Rattle.outcome.proofs.Verdict.{is-accepted, is-refused, accepted-each}
 use Rattle.outcome.proofs.Scan.{Passed, begin, go-on, stop, end}
 use Rattle.outcome.proofs.Chain.{chain}
@@ -32,7 +32,7 @@ record Entries (c : List ℕ) (start e : ℕ) : Type 0 where
   passed : Passed (entryVerdict c start) (entries c start) e
 
 fault : {c : List ℕ} {matrix start : ℕ} {o : Outcome} → Sections c matrix start → matrix < 3 → Refused o →
-    o ≡ sectionVerdict c start → o ≡ first (each c) 3
+    o ≡ sectionVerdict c start → o ≡ firstFault (each c) 3
 fault {c} {matrix} {start} {o} so-far l r e =
     let here : o ≡ each c matrix = rw (← so-far .begins) e in
     stop (each c) 3 (so-far .passed) l (rw here at r) here

@@ -7,8 +7,8 @@ use borrow.Author.Tests.{le-leb, lt-leb}
 use lib.ListN.{length, set}
 use Rattle.field.specs.Field.{p}
 use Rattle.circuit.specs.Circuit.{word, rowOf, columnOf, valueOf}
-use Rattle.assignment.specs.Assignment.{weight}
-use Rattle.assignment.proofs.Weights.{weight-order}
+use Rattle.assignment.specs.Assignment.{assigned}
+use Rattle.assignment.proofs.Assigned.{assigned-order}
 use Rattle.rows.specs.Sums.{withEntry}
 use borrow.Author.Needs.{needs}
 use Rattle.rows.proofs.add_entry.Statement.{statement}
@@ -25,7 +25,7 @@ module _ (c : List ℕ) (s : ℕ) (a : List ℕ) (from to e : ℕ) (xs : List �
 
   counted : from < columnOf c s e → columnOf c s e ≤ to →
       withEntry c s a from to e xs
-      ≡ set xs (rowOf c s e - 1) ((word xs (rowOf c s e - 1) + weight c a (columnOf c s e) * valueOf c s e) % p)
+      ≡ set xs (rowOf c s e - 1) ((word xs (rowOf c s e - 1) + assigned c a (columnOf c s e) * valueOf c s e) % p)
   unfolding withEntry
   counted h k = rw (withEntry, le-leb (suc from) (columnOf c s e) h, le-leb (columnOf c s e) to k)
 
@@ -36,17 +36,17 @@ returns-2 : tie.Need-returns-2
 returns-2 c = sym (too-high _ _ _ _ _ _ _ (search needs) (search needs))
 
 -- the value's index is inside: its column is at most `to`
-inside : (c : tie.After-weight-at) → c .weight-at .result < length (c .before .before .before .before .before .before .before .before .args .values .now)
+inside : (c : tie.After-assigned-at) → c .assigned-at .result < length (c .before .before .before .before .before .before .before .before .args .values .now)
 inside c =
     let entry = c .before .before .before .before .before .before .before .before in
     let column = columnOf (entry .args .circuit .now) (entry .args .start) (entry .args .e) in
     omega
-    (arith, c .weight-at .ensures, weight-order (entry .args .circuit .now) column (entry .args .to) (search needs), entry .pre .1 .0 .given)
+    (arith, c .assigned-at .ensures, assigned-order (entry .args .circuit .now) column (entry .args .to) (search needs), entry .pre .1 .0 .given)
 
 returns-3 : tie.Need-returns-3
 returns-3 c =
     let entry = c .before .before .before .before .before .before .before .before .before .before .before .before in
-    rw (c .add-scaled .ensures, c .before .before .before .before .weight-at .ensures)
+    rw (c .add-scaled .ensures, c .before .before .before .before .assigned-at .ensures)
     (sym (counted (entry .args .circuit .now) (entry .args .start) (entry .args .values .now) (entry .args .from) (entry .args .to) (entry .args .e)
     (entry .args .out .now) (search needs) (search needs)))
 

@@ -2,10 +2,10 @@
 use mathlib.Core.Path.{sym}
 use native.Mathlib.Omega.{arith}
 use borrow.Author.Needs.{needs}
-use Rattle.assignment.proofs.Weights.{public-at, private-at}
-use Rattle.rows.proofs.weight_at.Statement.{statement}
-use Rattle.rows.proofs.weight_at.Tie as tie
+use Rattle.assignment.proofs.Assigned.{public-at, private-at}
+use Rattle.rows.proofs.assigned_at.Statement.{statement}
+use Rattle.rows.proofs.assigned_at.Tie as tie
 
-pub weight-at-spec : {M : Type 1} → statement M
-weight-at-spec = tie.close
+pub assigned-at-spec : {M : Type 1} → statement M
+assigned-at-spec = tie.close
     (tie.spec (λ c κs. search needs) (λ c. sym (public-at _ _ (omega arith))) (λ c. search needs) (λ c. sym (private-at _ _ (omega arith))))

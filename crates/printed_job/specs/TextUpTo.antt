@@ -4,7 +4,7 @@ use Prim.Native.Nat.{ℕ, _≤_}
 use lib.ListN.{length, take, replicate}
 use Rattle.text.specs.Text.{Kept}
 
-pub record Written (Says : List ℕ → Type 0) (before bytes : List ℕ) (end : ℕ) : Type 0 where
+pub record TextUpTo (Says : List ℕ → Type 0) (before bytes : List ℕ) (end : ℕ) : Type 0 where
   pub says : Says (take end bytes)
   pub rest : Kept before bytes end
   pub within : end ≤ length bytes

@@ -12,20 +12,20 @@ use lib.Dec.{leb}
 use lib.ListN.{length, take}
 use lib.Seq.{length-take-le, getD-take}
 use Rattle.outcome.specs.Verdict.{Accepted}
-use Rattle.outcome.proofs.Verdict.{written-new}
+use Rattle.outcome.proofs.Verdict.{accepted-new}
 use Rattle.circuit.specs.Circuit.{word, publics, columns}
 use Rattle.circuit.specs.WellFormed.{Formed}
-use Rattle.assignment.specs.Assignment.{weightAt, weight, circuitThenAssignment, publicVerdict, publicSection}
+use Rattle.assignment.specs.Assignment.{assignedAt, assigned, circuitThenAssignment, publicVerdict, publicSection}
 use Rattle.assignment.specs.WellFormed.{AssignmentFormed, PublicFormed}
 use Rattle.assignment.proofs.Accepted.{both-formed, public-accepted}
 
-pub public-at : (c : List ℕ) (j : ℕ) → j ≤ publics c → weightAt c j ≡ j
-unfolding weightAt
-public-at c j h = rw (weightAt, le-leb j (publics c) h)
+pub public-at : (c : List ℕ) (j : ℕ) → j ≤ publics c → assignedAt c j ≡ j
+unfolding assignedAt
+public-at c j h = rw (assignedAt, le-leb j (publics c) h)
 
-pub private-at : (c : List ℕ) (j : ℕ) → publics c < j → weightAt c j ≡ j + 1
-unfolding weightAt
-private-at c j h = rw (weightAt, lt-leb j (publics c) h)
+pub private-at : (c : List ℕ) (j : ℕ) → publics c < j → assignedAt c j ≡ j + 1
+unfolding assignedAt
+private-at c j h = rw (assignedAt, lt-leb j (publics c) h)
 
 public-or-private : (c : List ℕ) (j : ℕ) → (j ≤ publics c) ⊎ (publics c < j)
 public-or-private c j = go (leb j (publics c)) refl
@@ -35,8 +35,8 @@ public-or-private c j = go (leb j (publics c)) refl
     go false e = inr (leb-false j (publics c) e)
 
 -- a later column stands later
-pub weight-order : (c : List ℕ) (i j : ℕ) → i ≤ j → weightAt c i ≤ weightAt c j
-weight-order c i j h = ⊎-elim
+pub assigned-order : (c : List ℕ) (i j : ℕ) → i ≤ j → assignedAt c i ≤ assignedAt c j
+assigned-order c i j h = ⊎-elim
     (λ (low : j ≤ publics c). rw (public-at c i (omega arith), public-at c j low) h)
     (λ (high : publics c < j). ⊎-elim
     (λ (low : i ≤ publics c). rw (public-at c i low, private-at c j high) (omega arith))
@@ -45,8 +45,8 @@ weight-order c i j h = ⊎-elim
     (public-or-private c j)
 
 module _ {c a : List ℕ} (formed : AssignmentFormed c a) where
-  pub weight-inside : (j : ℕ) → j ≤ columns c → weightAt c j < length a
-  weight-inside j h = ⊎-elim
+  pub assigned-inside : (j : ℕ) → j ≤ columns c → assignedAt c j < length a
+  assigned-inside j h = ⊎-elim
       (λ (low : j ≤ publics c). rw (public-at c j low) (omega arith))
       (λ (high : publics c < j). rw (private-at c j high) (omega arith))
       (public-or-private c j)
@@ -74,12 +74,12 @@ module _ {c a : List ℕ} (circuit : Formed c) (formed : AssignmentFormed c a) w
     };
   }
 
-  pub public-weight : (j : ℕ) → j ≤ publics c → weight c (take (publics c + 1) a) j ≡ weight c a j
-  public-weight j l = rw (public-at c j l) (public-word j l)
+  pub public-assigned : (j : ℕ) → j ≤ publics c → assigned c (take (publics c + 1) a) j ≡ assigned c a j
+  public-assigned j l = rw (public-at c j l) (public-word j l)
 
 -- what is handed out is what the check of a public section takes
 pub section-accepted : (c a : List ℕ) → Accepted (circuitThenAssignment c a) → Accepted (publicVerdict c (publicSection c a))
 unfolding publicSection
 section-accepted c a h =
     let (circuit, formed) = both-formed c a h in
-    rw (written-new (take (publics c + 1) a) _ h) (public-accepted (public-part (circuit .formed) formed))
+    rw (accepted-new (take (publics c + 1) a) _ h) (public-accepted (public-part (circuit .formed) formed))
