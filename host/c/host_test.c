@@ -88,7 +88,7 @@ static uint64_t check(const uint8_t *circuit, size_t circuit_len, const uint8_t 
 static uint8_t job[4 * J_WORDS];
 static uint8_t query[ROWPROVER_QUERY_BYTES];
 
-/* J as document 01 prints it, and its query: the point and the four printed answers. */
+/* J as RULES 7 prints it, and its query: the point and the four printed answers. */
 static void fresh(void)
 {
     static const uint32_t words[5] = {3, 17, 7, 2013265918, 50};

@@ -1,4 +1,4 @@
-/* The jobs of the C tests: document 01's J, and a full one. Kept in bytes as a host would hold them. */
+/* The jobs of the C tests: the rules' J, and a full one. Kept in bytes as a host would hold them. */
 
 #ifndef JOBS_H
 #define JOBS_H

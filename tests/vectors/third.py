@@ -1,5 +1,5 @@
 #!/usr/bin/env python3
-"""The job program a third time: reads a job from standard input and writes document 01's lines.
+"""The job program a third time: reads a job from standard input and writes the rules' lines.
 
 It shares nothing with the second program in host/rust, neither code nor method: rows are summed first, the three
 sums interpolated by Newton's divided differences, the product kept whole and divided by long division, the row

@@ -1,5 +1,5 @@
 -- Blinding: A'B' − C' = Z H' has a solution exactly where A B − C is 0 at all points; it is the only one of its length,
--- equals H + d1 B + d2 A + d1 d2 Z − d3, and with blinders 0 its last two words are 0. Document 01, "Polynomials".
+-- equals H + d1 B + d2 A + d1 d2 Z − d3, and with blinders 0 its last two words are 0. RULES 4.
 use mathlib.Core.Path.{_≡_, sym, _∙_, ap}
 use mathlib.Core.List.{List, [], _∷_}
 use Prim.Native.Nat.{ℕ, zero, suc, _+_, _*_, _-_, _<_, _≤_}

@@ -1,5 +1,5 @@
 -- Sums over columns: they split, and the list through the sums of the columns' values is the sum of the columns.
--- Document 01, "Polynomials".
+-- RULES 4.
 use mathlib.Core.Path.{_≡_, refl}
 use mathlib.Core.List.{List}
 use Prim.Native.Nat.{ℕ, zero, suc, _+_, _*_, _<_, _≤_}

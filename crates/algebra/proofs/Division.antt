@@ -1,5 +1,5 @@
 -- Division by the target: a list that is 0 at all points is the target times exactly one list of words, and conversely.
--- One factor X − x at a time: `divided` finds the quotient, `factor-cancel` shows it is the only one. Document 01, "Polynomials".
+-- One factor X − x at a time: `divided` finds the quotient, `factor-cancel` shows it is the only one. RULES 4.
 use mathlib.Core.Path.{_≡_, sym, _∙_}
 use mathlib.Core.List.{List, [], _∷_}
 use Prim.Native.Nat.{ℕ, zero, suc, _+_, _*_, _<_}

@@ -1,6 +1,6 @@
 -- Interpolation: through any values at distinct points there is exactly one list of that many words.
 -- A list through all points but the first gets the multiple of their target that is missing at the first.
--- Document 01, "Polynomials".
+-- RULES 4.
 use mathlib.Core.Path.{_≡_, refl, sym, _∙_}
 use mathlib.Core.List.{List, [], _∷_}
 use Prim.Native.Nat.{ℕ, zero, suc, _+_, _*_, _<_}

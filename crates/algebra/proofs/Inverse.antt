@@ -1,5 +1,5 @@
 -- The field: modulo a prime every number but 0 has exactly one inverse; no zero divisors, cancellation,
--- and exactly one word d with a + d z = v (the blinder of demand 3). Document 01, "The field".
+-- and exactly one word d with a + d z = v (the blinder of demand 3). RULES 1.
 use mathlib.Core.Path.{_≡_, ap}
 use mathlib.Core.Logic.{_⊎_, inl, inr, ⊎-elim}
 use Prim.Native.Nat.{ℕ, zero, suc, _+_, _*_, _/_, _%_, _<_, _≤_}

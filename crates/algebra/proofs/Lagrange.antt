@@ -1,5 +1,5 @@
 -- The value at s of the list through given values, without the list: the sum of u_i times all (s − x_j) but (s − x_i),
--- where u_i times all (x_i − x_j) but its own is the value at x_i. Document 01, "Query and checks".
+-- where u_i times all (x_i − x_j) but its own is the value at x_i. RULES 5.
 use mathlib.Core.Path.{_≡_, sym, _∙_}
 use mathlib.Core.Logic.{⊎-elim}
 use mathlib.Core.List.{List, [], _∷_}

@@ -1,4 +1,4 @@
--- Trial division, as a test that the checker computes, and its soundness: a number that passes is prime. Document 01, "The field".
+-- Trial division, as a test that the checker computes, and its soundness: a number that passes is prime. RULES 1.
 use mathlib.Core.Path.{_≡_, refl, _∙_}
 use mathlib.Core.Logic.{⊎-elim}
 use mathlib.Core.Bool.{Bool, true, false}

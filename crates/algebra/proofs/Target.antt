@@ -1,4 +1,4 @@
--- The target: one word more than there are points, the last word 1, and 0 exactly at the points. Document 01, "Polynomials".
+-- The target: one word more than there are points, the last word 1, and 0 exactly at the points. RULES 4.
 use mathlib.Core.Path.{_≡_, refl, _∙_, ap}
 use mathlib.Core.Logic.{⊎-elim}
 use mathlib.Core.List.{List, [], _∷_}

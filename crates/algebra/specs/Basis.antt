@@ -1,5 +1,5 @@
 -- The basis of a list of points: for each point the product of the differences to the others, its inverse, and the basis value at s.
--- Document 01, "Polynomials" and "Query and checks": with these a value at s needs no polynomial.
+-- RULES 4 and RULES 5: with these a value at s needs no polynomial.
 use mathlib.Core.Path.{_≡_}
 use mathlib.Core.List.{List, [], _∷_}
 use Prim.Native.Nat.{ℕ, zero, suc, _*_, _<_}

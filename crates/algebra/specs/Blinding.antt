@@ -1,5 +1,5 @@
 -- The blinded polynomials and their quotient.
--- Document 01, "Polynomials": A' = A + d1 Z, B' = B + d2 Z, C' = C + d3 Z; the quotient H' is the list of exactly
+-- RULES 4: A' = A + d1 Z, B' = B + d2 Z, C' = C + d3 Z; the quotient H' is the list of exactly
 -- (number of points + 1) words with A'B' − C' = Z H'. Nothing is subtracted here: A'B' = C' + Z H'.
 use mathlib.Core.Path.{_≡_}
 use mathlib.Core.List.{List, [], _∷_}

@@ -1,5 +1,5 @@
 -- Sums over columns: of numbers, and of multiples of polynomials.
--- Document 01, "Polynomials": A(X) is the sum of w_j A_j(X) over all j; a private part is the same over some j.
+-- RULES 4: A(X) is the sum of w_j A_j(X) over all j; a private part is the same over some j.
 use mathlib.Core.List.{List, []}
 use Prim.Native.Nat.{ℕ, zero, suc, _+_}
 use Rattle.algebra.specs.Polynomial.{sum, multiple}

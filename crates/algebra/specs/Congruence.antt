@@ -1,5 +1,5 @@
 -- Congruence modulo p, and what an inverse is.
--- Document 01, "The field": each inverse times its number leaves 1 modulo p; minus one is p − 1.
+-- RULES 1: each inverse times its number leaves 1 modulo p; minus one is p − 1.
 use mathlib.Core.Path.{_≡_}
 use Prim.Native.Nat.{ℕ, _*_, _-_, _%_, _<_}
 

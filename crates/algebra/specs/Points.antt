@@ -1,5 +1,5 @@
 -- Points, the target through them, the list that takes given values at them, and the quotient by the target.
--- Document 01, "Polynomials": target Z(X) is the product of (X − i); a column has as many words as there are points and takes its value at each.
+-- RULES 4: target Z(X) is the product of (X − i); a column has as many words as there are points and takes its value at each.
 use mathlib.Core.Path.{_≡_}
 use mathlib.Core.List.{List, [], _∷_}
 use Prim.Native.Nat.{ℕ, zero, suc, _-_, _<_}

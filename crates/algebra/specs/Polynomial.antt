@@ -1,5 +1,5 @@
 -- Polynomials as lists of numbers, power 0 first: value, quotient by X − c, sum, multiple, product, and when two are the same modulo p.
--- Document 01, "Polynomials". All is exact in ℕ: `reduced` alone makes words, and `≋` alone compares modulo p.
+-- RULES 4. All is exact in ℕ: `reduced` alone makes words, and `≋` alone compares modulo p.
 use mathlib.Core.List.{List, [], _∷_}
 use Prim.Native.Nat.{ℕ, _+_, _*_, _%_, _<_}
 use lib.ListN.{length, getD}

@@ -1,5 +1,5 @@
 -- What a prime number is.
--- Document 01, "The field": p is a prime; that it is prime is proved.
+-- RULES 1: p is a prime; that it is prime is proved.
 use mathlib.Core.Path.{_≡_}
 use Prim.Native.Nat.{ℕ, _*_, _<_}
 

@@ -1,4 +1,4 @@
--- The answer check's equality (document 01, "Query and checks") from words: with the public parts at s added, the words agree
+-- The answer check's equality (RULES 5) from words: with the public parts at s added, the words agree
 -- exactly where the answers do.
 use mathlib.Core.Bool.{Bool}
 use mathlib.Core.Path.{_≡_, sym, _∙_}

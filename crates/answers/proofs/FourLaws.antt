@@ -1,5 +1,5 @@
 -- The four numbers that the box computes are the four answers: three private parts with blinders, and (u v − t) / Z(s),
--- which is H'(s) because A'(s) B'(s) − C'(s) = Z(s) H'(s) and Z(s) is not 0. Document 01, "Query and checks".
+-- which is H'(s) because A'(s) B'(s) − C'(s) = Z(s) H'(s) and Z(s) is not 0. RULES 5.
 use mathlib.Core.Path.{_≡_}
 use mathlib.Core.List.{List}
 use Prim.Native.Nat.{ℕ, _+_, _*_, _%_, _<_}

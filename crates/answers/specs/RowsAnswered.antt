@@ -1,4 +1,4 @@
--- What the answers call gives once the checks before 10 have passed. Document 01, "Query and checks".
+-- What the answers call gives once the checks before 10 have passed. RULES 5.
 use mathlib.Core.Path.{_≡_}
 use mathlib.Core.List.{List}
 use Prim.Native.Nat.{ℕ}

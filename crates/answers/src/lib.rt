@@ -1,4 +1,4 @@
-// The four answers to a query (document 01, "Query and checks"). The call asks nothing of its input.
+// The four answers to a query (RULES 5). The call asks nothing of its input.
 ghost use mathlib.Core.Path.{_≡_};
 ghost use Prim.Native.Nat.{_≤_};
 ghost use lib.ListN.{length};

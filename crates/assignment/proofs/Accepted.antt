@@ -1,5 +1,5 @@
 -- The verdicts accept exactly well formed assignments and public sections, and then are 0 at place 0.
--- Document 01, "Assignment words".
+-- RULES 3.
 use mathlib.Core.List.{List}
 use Prim.Native.Nat.{ℕ, _-_, _+_, _<_}
 use native.Mathlib.Omega.{arith}

@@ -1,6 +1,6 @@
 -- Where values stand: public ones at their column's number, private ones one further, all inside the assignment;
 -- and what is handed out of an accepted assignment is an accepted public section with the same public values.
--- Document 01, "Assignment words".
+-- RULES 3.
 use mathlib.Core.Bool.{Bool, true, false}
 use mathlib.Core.List.{List}
 use mathlib.Core.Logic.{_⊎_, inl, inr, ⊎-elim}

@@ -1,5 +1,5 @@
 -- Assignment words and public sections: what they mean, and the verdict over them.
--- Document 01, "Assignment words", and numbers 6 and 7 of "Numbers a call gives back".
+-- RULES 3, and numbers 6 and 7 of RULES 6.
 use mathlib.Core.Bool.{true, false}
 use mathlib.Core.List.{List, []}
 use Prim.Native.Nat.{ℕ, _+_, _-_}

@@ -1,5 +1,5 @@
 -- What accepted assignments and public sections have; proofs/Accepted.antt shows that the verdicts are 0 exactly for these.
--- Document 01, "Assignment words".
+-- RULES 3.
 use mathlib.Core.List.{List}
 use mathlib.Core.Path.{_≡_}
 use Prim.Native.Nat.{ℕ, _+_, _-_}

@@ -1,4 +1,4 @@
-// Assignments and public sections: numbers 6 and 7 of document 01's table, and the public section handed out.
+// Assignments and public sections: numbers 6 and 7 of the table of RULES 6, and the public section handed out.
 ghost use mathlib.Core.Path.{_≡_};
 ghost use Prim.Native.Nat.{_≤_, _<_};
 ghost use lib.ListN.{length};

@@ -1,6 +1,6 @@
 -- Values added point by point: a value times its weight times the target divided by X − x is that value at x and 0 at the other
 -- points. So adding all of them to zeros makes the list through the values. Over any prime and any distinct points.
--- Document 01, "Polynomials".
+-- RULES 4.
 use mathlib.Core.Path.{_≡_, refl, sym, _∙_, ap}
 use mathlib.Core.List.{List}
 use Prim.Native.Nat.{ℕ, zero, suc, _+_, _*_, _%_, _<_, _≤_}

@@ -1,5 +1,5 @@
 -- Each contract admits one answer; and the sum of values times basis values is the value at s of the list through them.
--- Over any prime, and any distinct points or the points 1..m. Document 01, "What the contracts have to say".
+-- Over any prime, and any distinct points or the points 1..m. RULES 10.
 use mathlib.Core.Path.{_≡_, sym, _∙_}
 use mathlib.Core.List.{List}
 use Prim.Native.Nat.{ℕ, _*_, _%_, _<_}

@@ -1,5 +1,5 @@
 -- The two passes of the basis values: what their running words are, and that together they multiply each word by all (s − x) of the
--- other points. So they make the basis values of the basis weights. Document 01, "Query and checks".
+-- other points. So they make the basis values of the basis weights. RULES 5.
 use mathlib.Core.Path.{_≡_, refl, _∙_, ap}
 use mathlib.Core.List.{List, [], _∷_}
 use Prim.Native.Nat.{ℕ, zero, suc, _+_, _*_, _-_, _%_, _<_}

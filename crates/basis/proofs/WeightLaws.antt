@@ -1,5 +1,5 @@
 -- The steps of the basis weights at consecutive points: one factor more for a product of differences is one inverse
--- more for its weight. Document 01, "Query and checks".
+-- more for its weight. RULES 5.
 use mathlib.Core.Path.{_≡_}
 use Prim.Native.Nat.{ℕ, _+_, _*_, _-_, _%_, _<_, _≤_}
 use native.Mathlib.Nat.{mod-lt}

@@ -1,5 +1,5 @@
 -- What `basis_values` gives: the basis values of the points 1..m at s, and the target's value there.
--- Document 01, "Query and checks": Z(s), and the columns' values at s, which need no polynomial.
+-- RULES 5: Z(s), and the columns' values at s, which need no polynomial.
 use mathlib.Core.Path.{_≡_}
 use mathlib.Core.List.{List}
 use Prim.Native.Nat.{ℕ, _%_}

@@ -1,5 +1,5 @@
 -- A column from values most of which are 0: what is lent for it, and what adding the values point by point has done so far.
--- Document 01, "Polynomials": a column has m words and takes a(i,j) at point i for i = 1..m; a coefficient not listed is 0.
+-- RULES 4: a column has m words and takes a(i,j) at point i for i = 1..m; a coefficient not listed is 0.
 use mathlib.Core.Path.{_≡_}
 use mathlib.Core.List.{List}
 use Prim.Native.Nat.{ℕ, _+_, _<_, _≤_}

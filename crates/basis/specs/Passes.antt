@@ -1,5 +1,5 @@
 -- The two passes from basis weights to basis values: each word times all (s − x) of the points before its own, then of those after.
--- Document 01, "Query and checks": s is a point outside 1..m; here any s. Word number i, counted from 0, belongs to the point i + 1.
+-- RULES 5: s is a point outside 1..m; here any s. Word number i, counted from 0, belongs to the point i + 1.
 use mathlib.Core.List.{List, [], _∷_}
 use Prim.Native.Nat.{ℕ, suc, _*_, _-_, _%_}
 use lib.ListN.{length}

@@ -1,6 +1,6 @@
-// What a value at a point s costs when no polynomial is made (document 01, "Query and checks"), at the points 1..m, m at most 256:
+// What a value at a point s costs when no polynomial is made (RULES 5), at the points 1..m, m at most 256:
 // the basis weights, the basis values with the target's value, the sum of given values times basis values; and with the same weights
-// a column ("Polynomials") from values most of which are 0.
+// a column (RULES 4) from values most of which are 0.
 ghost use mathlib.Core.Path.{_≡_};
 ghost use Prim.Native.Nat.{_*_, _%_, _≤_, _<_};
 ghost use lib.ListN.{length, getD};

@@ -1,5 +1,5 @@
 // Worked examples of the basis, words in decimals with a space between. The weights of 1 point. Of 2 points: the weights; the basis
-// values at 0 and at 3, each with the target's value on the next line; document 01's column 3 of A at 3 and at 0, from its values
+// values at 0 and at 3, each with the target's value on the next line; the rules' column 3 of A at 3 and at 0, from its values
 // at the points; lines b and c from such values. Of 5 points: the weights; the basis values at 0, −1 and the point 4, with
 // the target's value; the column that takes 7 at 3 and the largest word at 5. Of 256 points: the first and the last weight.
 ghost use mathlib.Core.Path.{_≡_};

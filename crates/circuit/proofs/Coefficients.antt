@@ -1,4 +1,4 @@
--- What a coefficient is (document 01, "Circuit words"): the value of the entry listed there, and 0 where none is; and a sum over
+-- What a coefficient is (RULES 2): the value of the entry listed there, and 0 where none is; and a sum over
 -- listed entries is the sum over rows and columns of the coefficients.
 use mathlib.Core.Bool.{Bool, true, false}
 use mathlib.Core.List.{List}

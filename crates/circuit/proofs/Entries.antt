@@ -1,5 +1,5 @@
 -- Entries of a well formed section: they ascend, so at most one is listed at a row and a column, and a sum over the
--- entries is the sum over rows and columns of the coefficients. Document 01, "Circuit words".
+-- entries is the sum over rows and columns of the coefficients. RULES 2.
 use mathlib.Core.Bool.{Bool, true, false, _&&_, _||_}
 use mathlib.Core.List.{List}
 use mathlib.Core.Logic.{_⊎_, inl, inr, ⊎-elim}

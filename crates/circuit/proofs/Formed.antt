@@ -1,4 +1,4 @@
--- A verdict accepts exactly where the words are well formed: each check is one field of the record. Document 01, "Circuit words".
+-- A verdict accepts exactly where the words are well formed: each check is one field of the record. RULES 2.
 use mathlib.Core.List.{List}
 use Prim.Native.Nat.{ℕ}
 use borrow.Author.Tests.{le-leb, lt-ltb, eq-eqb, leb-true, ltb-true, eqb-true}

@@ -1,5 +1,5 @@
 -- Words that begin with a circuit: their part up to where it ends is a circuit, with the same counts, sections and entries.
--- Document 01, "Circuit words".
+-- RULES 2.
 use mathlib.Core.List.{List}
 use mathlib.Core.Path.{_≡_, refl, sym, _∙_}
 use Prim.Native.Nat.{ℕ, zero, suc, _+_, _-_, _≤_, _<_}

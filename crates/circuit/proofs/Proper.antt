@@ -1,5 +1,5 @@
 -- A reader's verdict that accepts is 0 at place 0: every check of it gives a number above 0.
--- Document 01, "Numbers a call gives back".
+-- RULES 6.
 use mathlib.Core.List.{List}
 use Prim.Native.Nat.{ℕ}
 use lib.Dec.{lit<}

@@ -1,4 +1,4 @@
--- Where sections stand: each begins where the one before it ends, and all end within the words. Document 01, "Circuit words".
+-- Where sections stand: each begins where the one before it ends, and all end within the words. RULES 2.
 use mathlib.Core.List.{List}
 use mathlib.Core.Logic.{⊎-elim}
 use mathlib.Core.Path.{_≡_, refl}

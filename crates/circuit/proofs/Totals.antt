@@ -1,5 +1,5 @@
 -- Sums over the indices below a number, beside those laws that algebra has: two sums change places, and one index is picked
--- out; and tables of values. For the sums over columns of document 01, "Polynomials".
+-- out; and tables of values. For the sums over columns of RULES 4.
 use mathlib.Core.Bool.{Bool, true, false}
 use mathlib.Core.Logic.{⊎-elim}
 use mathlib.Core.Path.{_≡_, refl, sym, _∙_, ap}

@@ -1,5 +1,5 @@
 -- What circuit words mean: counts, sections, entries, and the coefficient of a matrix at a row and a column.
--- Document 01, "Circuit words". Nothing here asks whether the words are well formed: specs/Reader.antt does.
+-- RULES 2. Nothing here asks whether the words are well formed: specs/Reader.antt does.
 use mathlib.Core.Bool.{Bool, true, false, _&&_}
 use mathlib.Core.List.{List}
 use Prim.Native.Nat.{ℕ, zero, suc, _+_, _*_}

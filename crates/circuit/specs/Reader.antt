@@ -1,4 +1,4 @@
--- The verdict over circuit words: document 01, "Numbers a call gives back", numbers 1 to 5 and their order.
+-- The verdict over circuit words: RULES 6, numbers 1 to 5 and their order.
 -- Each line is one check with the number and place that it gives where it fails; the first that fails decides.
 use mathlib.Core.Bool.{Bool, _&&_, _||_}
 use mathlib.Core.List.{List}

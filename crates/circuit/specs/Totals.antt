@@ -1,5 +1,5 @@
 -- Lists over the indices below a number, and terms that count where a test holds: what columns and row sums are written with.
--- Document 01, "Polynomials".
+-- RULES 4.
 use mathlib.Core.Bool.{Bool, true, false}
 use mathlib.Core.List.{List, [], _∷_}
 use Prim.Native.Nat.{ℕ, zero, suc}

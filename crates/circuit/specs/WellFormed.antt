@@ -1,4 +1,4 @@
--- What accepted words have: the ranges, the room and the order that document 01, "Circuit words", asks for.
+-- What accepted words have: the ranges, the room and the order that RULES 2, asks for.
 -- proofs/Formed.antt shows that the verdict is 0 exactly for these.
 use mathlib.Core.Bool.{true}
 use mathlib.Core.List.{List}

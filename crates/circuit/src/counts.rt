@@ -1,4 +1,4 @@
-// The counts m, q, n of a circuit, for code that knows nothing of where they stand. Document 01, "Circuit words".
+// The counts m, q, n of a circuit, for code that knows nothing of where they stand. RULES 2.
 ghost use mathlib.Core.Path.{_≡_};
 ghost use Prim.Native.Nat.{_≤_};
 ghost use lib.ListN.{length};

@@ -1,2 +1,2 @@
-// Circuits: what their words mean (document 01, "Circuit words"), and their counts; crates entry, reader and column read them.
+// Circuits: what their words mean (RULES 2), and their counts; crates entry, reader and column read them.
 pub mod counts;

@@ -1,6 +1,6 @@
 // Circuits and assignments at the boundaries of every check, a line for each: number and place. Then public sections as they
 // are handed out, and the row sums and the verdict over the rows of some accepted assignments.
-// Document 01, "Numbers a call gives back".
+// RULES 6.
 use libc::STDOUT_FILENO;
 use outcome::Outcome;
 

@@ -1,6 +1,6 @@
 -- A column entry by entry: writing an entry to its row, where its column is the one asked for, makes the column of one entry
 -- more; no entry leaves 0, and all entries of a matrix's section make its coefficients.
--- Document 01, "Circuit words".
+-- RULES 2.
 use mathlib.Core.Bool.{Bool, true, false, _&&_}
 use mathlib.Core.List.{List}
 use mathlib.Core.Path.{_≡_, refl, sym}

@@ -1,5 +1,5 @@
 -- Columns written one after the other: the list through a column's coefficients is the column; one more column written in its
--- place leaves those before it; and so many columns are what the two column calls promise. Document 01, "Polynomials".
+-- place leaves those before it; and so many columns are what the two column calls promise. RULES 4.
 use mathlib.Core.List.{List}
 use mathlib.Core.Logic.{⊎-elim}
 use mathlib.Core.Path.{_≡_, _∙_}

@@ -1,5 +1,5 @@
 -- One column of a matrix, row by row: its coefficients, and what the first entries of the section make of it.
--- Document 01, "Circuit words": a coefficient not listed is 0.
+-- RULES 2: a coefficient not listed is 0.
 use mathlib.Core.List.{List}
 use Prim.Native.Nat.{ℕ, suc}
 use Rattle.circuit.specs.Circuit.{rows, listed, coef}

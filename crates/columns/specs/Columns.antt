@@ -1,5 +1,5 @@
 -- Some columns of a matrix, one after the other: what writing them asks of the words lent, and what it leaves there.
--- Document 01, "Polynomials": column j in words (j − 1)·m up to j·m − 1, for the columns from number `first` on.
+-- RULES 4: column j in words (j − 1)·m up to j·m − 1, for the columns from number `first` on.
 use mathlib.Core.Path.{_≡_}
 use mathlib.Core.List.{List}
 use Prim.Native.Nat.{ℕ, _+_, _*_, _≤_, _<_}

@@ -1,4 +1,4 @@
-// The coefficients of one column of a matrix, row by row, in one pass over the listed entries. Document 01, "Circuit words".
+// The coefficients of one column of a matrix, row by row, in one pass over the listed entries. RULES 2.
 ghost use mathlib.Core.Path.{_≡_};
 ghost use Prim.Native.Nat.{_+_, _≤_, _<_};
 ghost use lib.ListN.{length, replicate};

@@ -1,4 +1,4 @@
-// One column and all columns of a matrix (document 01, "Polynomials"). No call asks anything of its input; refused, it changes no
+// One column and all columns of a matrix (RULES 4). No call asks anything of its input; refused, it changes no
 // word lent to it.
 ghost use Rattle.qap.specs.Calls.{ColumnCall, ColumnsCall};
 use outcome::Outcome;

@@ -1,4 +1,4 @@
-// The columns of a matrix (document 01, "Polynomials"): the verdicts of the two column calls, and what writes their words.
+// The columns of a matrix (RULES 4): the verdicts of the two column calls, and what writes their words.
 ghost use mathlib.Core.Path.{_≡_};
 ghost use Prim.Native.Nat.{_+_, _≤_, _<_};
 ghost use lib.ListN.{length};

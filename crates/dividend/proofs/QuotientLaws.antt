@@ -1,5 +1,5 @@
 -- From the words of A', B', C' in the room to the quotient of the definition, and to what the division check compares.
--- Document 01, "Polynomials".
+-- RULES 4.
 use mathlib.Core.Path.{_≡_}
 use mathlib.Core.List.{List}
 use Prim.Native.Nat.{ℕ, suc, _<_, _≤_}

@@ -1,5 +1,5 @@
 -- The room holds A'B' − C': its quotient by the target is the quotient of the definition where A'B' − C' is 0 at all points,
--- and it holds the same words as Z times a candidate exactly where the candidate divides. Document 01, "Polynomials".
+-- and it holds the same words as Z times a candidate exactly where the candidate divides. RULES 4.
 use mathlib.Core.Path.{_≡_, sym, _∙_}
 use mathlib.Core.List.{List}
 use Prim.Native.Nat.{ℕ, suc, _+_, _*_, _-_, _≤_}

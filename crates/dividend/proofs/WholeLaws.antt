@@ -1,4 +1,4 @@
--- Row sums in front of a word of room: with it they make A' (document 01, "Polynomials").
+-- Row sums in front of a word of room: with it they make A' (RULES 4).
 use mathlib.Core.Path.{_≡_, sym, _∙_, ap}
 use mathlib.Core.List.{List, _++_}
 use Prim.Native.Nat.{ℕ, suc, _+_, _<_, _≤_}

@@ -1,5 +1,5 @@
 -- A list of words that is A' = A + d Z, for the A that takes given values at the points.
--- Document 01, "Polynomials".
+-- RULES 4.
 use mathlib.Core.Path.{_≡_}
 use mathlib.Core.List.{List}
 use Prim.Native.Nat.{ℕ, suc}

@@ -1,5 +1,5 @@
 -- The work room of 513 words: A'B' − C' before division by Z, and the quotient taken from it.
--- Document 01, "Polynomials": before division the product is kept whole, up to 513 coefficients.
+-- RULES 4: before division the product is kept whole, up to 513 coefficients.
 use mathlib.Core.List.{List}
 use Prim.Native.Nat.{ℕ, _+_, _-_}
 use lib.ListN.{take}

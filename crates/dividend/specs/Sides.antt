@@ -1,4 +1,4 @@
--- The room of a circuit, an assignment and blinders: A'B' − C' for the lists A', B', C' of document 01, "Polynomials".
+-- The room of a circuit, an assignment and blinders: A'B' − C' for the lists A', B', C' of RULES 4.
 use mathlib.Core.Path.{_≡_}
 use mathlib.Core.List.{List}
 use Prim.Native.Nat.{ℕ, suc}

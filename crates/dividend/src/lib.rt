@@ -1,4 +1,4 @@
-// The work room of 513 words (document 01, "Polynomials"): A' = A + d Z from the values of A, A'B' − C' kept whole, and its
+// The work room of 513 words (RULES 4): A' = A + d Z from the values of A, A'B' − C' kept whole, and its
 // quotient by Z.
 ghost use mathlib.Core.Path.{_≡_};
 ghost use Prim.Native.Nat.{_+_, _<_, _≤_};

@@ -1,5 +1,5 @@
 -- The division check's equality from words: two rooms hold the same words exactly where the candidate divides.
--- Document 01, "Query and checks".
+-- RULES 5.
 use mathlib.Core.Bool.{Bool}
 use mathlib.Core.Path.{_≡_, sym, _∙_, ap}
 use mathlib.Core.List.{List}

@@ -1,4 +1,4 @@
-// The division check (document 01, "Query and checks"). It asks nothing of its input; 13 is an equality that is false.
+// The division check (RULES 5). It asks nothing of its input; 13 is an equality that is false.
 ghost use mathlib.Core.Path.{_≡_};
 ghost use Prim.Native.Nat.{_+_, _≤_, _<_};
 ghost use lib.ListN.{length};

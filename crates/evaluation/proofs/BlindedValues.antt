@@ -1,4 +1,4 @@
--- A part's value and d times the target's, as words, are the value with its blinder (document 01, "Query and checks").
+-- A part's value and d times the target's, as words, are the value with its blinder (RULES 5).
 use mathlib.Core.Path.{_≡_, refl, _∙_}
 use mathlib.Core.List.{List}
 use Prim.Native.Nat.{ℕ, _+_, _*_, _%_}

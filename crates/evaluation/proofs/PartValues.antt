@@ -1,4 +1,4 @@
--- Row sums times basis values are the value at s of the list that the part is (document 01, "Query and checks").
+-- Row sums times basis values are the value at s of the list that the part is (RULES 5).
 use mathlib.Core.Path.{_≡_, _∙_, ap}
 use mathlib.Core.List.{List}
 use Prim.Native.Nat.{ℕ, suc, _*_, _%_, _<_}

@@ -1,5 +1,5 @@
 -- Values at the point s of a part of a matrix, the sum over the columns after `from` up to `to`, and of three of them with blinders.
--- Document 01, "Query and checks": private parts in the answers, public ones in their check; over all columns A'(s), B'(s), C'(s).
+-- RULES 5: private parts in the answers, public ones in their check; over all columns A'(s), B'(s), C'(s).
 use mathlib.Core.Path.{_≡_}
 use mathlib.Core.List.{List}
 use Prim.Native.Nat.{ℕ, _+_, _*_, _%_}

@@ -1,4 +1,4 @@
-// Values at a point without a polynomial (document 01, "Query and checks"): a part of a matrix as row sums times basis values, three
+// Values at a point without a polynomial (RULES 5): a part of a matrix as row sums times basis values, three
 // parts with their blinders, and the quotient's value.
 ghost use mathlib.Core.List.{List};
 ghost use mathlib.Core.Path.{_≡_};

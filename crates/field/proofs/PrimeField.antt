@@ -1,5 +1,5 @@
 -- p is prime, by trial division that the checker runs. So an inverse is the only one, and each record of
--- specs/Field.antt admits one answer. Document 01, "The field".
+-- specs/Field.antt admits one answer. RULES 1.
 use mathlib.Core.Path.{_≡_, sym, _∙_}
 use mathlib.Core.List.{List}
 use mathlib.Core.Logic.{⊎-elim}

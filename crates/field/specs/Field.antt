@@ -1,5 +1,5 @@
 -- The field's prime p, and what the contracts of its inverses say.
--- Document 01, "The field": p, and the table of the inverses of 1 to 256.
+-- RULES 1: p, and the table of the inverses of 1 to 256.
 use mathlib.Core.Path.{_≡_}
 use mathlib.Core.List.{List}
 use Prim.Native.Nat.{ℕ, suc, _<_}

@@ -1,4 +1,4 @@
-// Arithmetic in the field of p = 2013265921 elements (document 01, "The field").
+// Arithmetic in the field of p = 2013265921 elements (RULES 1).
 // Every operation takes any u32 words, also those that are not below p, and gives a word below p.
 ghost use mathlib.Core.Path.{_≡_};
 ghost use Prim.Native.Nat.{_+_, _*_, _%_, _<_};

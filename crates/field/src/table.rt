@@ -1,4 +1,4 @@
-// The constant table of the inverses of 1 to 256. Document 01, "The field".
+// The constant table of the inverses of 1 to 256. RULES 1.
 ghost use Rattle.field.specs.Field.{InverseTable};
 
 const INVERSES: [u32; 256] = [

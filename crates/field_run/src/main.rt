@@ -1,6 +1,6 @@
 // Worked examples of the field, in decimals with a space between: minus one; the largest words multiplied and added;
 // a line a, b, a + b, a - b, a b for each pair of words at the borders; a line a, inverse, product for inverses;
-// and the first, second and last entry of the table. Document 01, "The field".
+// and the first, second and last entry of the table. RULES 1.
 
 const LARGEST: u32 = 4294967295;
 

@@ -1,4 +1,4 @@
-// The job program: a job file on standard input, its lines on standard output. Document 01, "The program and one run whole".
+// The job program: a job file on standard input, its lines on standard output. RULES 7.
 // What is printed is decided by `printed_job::run`; where the input could not be read to its end, nothing is.
 use libc::STDIN_FILENO;
 use libc::STDOUT_FILENO;

@@ -1,5 +1,5 @@
 -- The job file's words: circuit, assignment, count 3 and three blinders, count 1 and the point, and which number and place they get.
--- Document 01, "The program and one run whole".
+-- RULES 7.
 use mathlib.Core.List.{List}
 use Prim.Native.Nat.{ℕ, _+_, _%_}
 use lib.Dec.{leb, eqb}

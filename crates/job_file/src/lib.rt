@@ -1,4 +1,4 @@
-// Reads a job file's words: which number and place they get, and where their parts are (document 01, "The program and one run whole").
+// Reads a job file's words: which number and place they get, and where their parts are (RULES 7).
 ghost use mathlib.Core.Path.{_≡_};
 ghost use lib.ListN.{length};
 ghost use Rattle.circuit.specs.WellFormed.{Formed};

@@ -1,4 +1,4 @@
-// Lines a to m of document 01's "Marked examples", then what it says is run only, then J's run whole. A line has the call's number and
+// Lines a to m of RULES 9, then what it says is run only, then J's run whole. A line has the call's number and
 // place, then the words it wrote or gave back; lent words are 9 before.
 use libc::STDOUT_FILENO;
 use outcome::Outcome;

@@ -1,6 +1,6 @@
 -- How code that returns at the first failed check meets its verdict: each law takes off the verdict's first check,
 -- passed or failed. `search chain` walks down the checks by the facts that the branches left.
--- Document 01, "Numbers a call gives back".
+-- RULES 6.
 use mathlib.Core.Bool.{Bool, true, false, _&&_}
 use mathlib.Core.Path.{_≡_, refl, sym, _∙_}
 use Prim.Native.Nat.{ℕ, _<_, _≤_}
@@ -8,7 +8,7 @@ use borrow.Author.Tests.{le-leb, lt-leb, le-ltb, eq-eqb, ne-eqb}
 use lib.Dec.{T, leb, ltb, eqb, lit<}
 use Rattle.outcome.specs.declared.Outcome.{Outcome}
 use Rattle.outcome.specs.Verdict.{fine, outcome, Refused, require, within, _andThen_}
-use Rattle.outcome.proofs.Verdict.{goes-on, stops, passes, fails, accepted-require, is-accepted, is-refused}
+use Rattle.outcome.proofs.Verdict.{andThen-assoc, goes-on, stops, passes, fails, accepted-require, is-accepted, is-refused}
 
 pub passed : {o rest : Outcome} {t : Bool} (number place : ℕ) → t ≡ true → o ≡ rest → o ≡ require t number place andThen rest
 passed {rest = rest} number place h e = e ∙ sym (goes-on rest (accepted-require number place h))
@@ -86,3 +86,20 @@ pub ruleset chain = (tt, refl, last, at-most, not-at-most, not-less, equal, uneq
 
 -- for a function that goes by what the functions it calls gave back
 pub ruleset calls = (chain, called, called-refused)
+
+-- a chain of calls, `a.and_then(b).and_then(c)`: each result is that of the calls before it and the last; the checks come off from the left
+
+pub ends : {o g : Outcome} (x y : Outcome) → o ≡ x andThen y → x andThen y ≡ g → o ≡ g
+ends x y e h = e ∙ h
+
+pub unrolled : {x g : Outcome} (y u v : Outcome) → x ≡ u andThen v → u andThen (v andThen y) ≡ g → x andThen y ≡ g
+unrolled y u v e h = rw e (andThen-assoc u v y ∙ h)
+
+pub matched : {u w a rest : Outcome} → u ≡ a → w ≡ rest → u andThen w ≡ a andThen rest
+matched e h = rw (e, h)
+
+-- a check that was called for, with a test that was called for
+pub made : {o : Outcome} {r t : Bool} (number place : ℕ) → o ≡ require r number place → r ≡ t → o ≡ require t number place
+made number place e h = rw h at e
+
+pub ruleset chained = (refl, made, ends, unrolled, matched)

@@ -1,5 +1,5 @@
 -- A loop that stops at the first fault: its invariant, and what it has where it begins, goes on, stops and ends.
--- Document 01, "Numbers a call gives back".
+-- RULES 6.
 use mathlib.Core.Path.{_≡_, sym, _∙_}
 use Prim.Native.Nat.{ℕ, _+_, _≤_, _<_}
 use native.Mathlib.Nat.{le-antisymm}

@@ -1,5 +1,5 @@
 -- The laws of checks in a row: what is accepted passes every check, and a refusal is the first that fails.
--- Document 01, "Numbers a call gives back".
+-- RULES 6.
 use mathlib.Core.Bool.{Bool, true, false, _&&_}
 use mathlib.Core.List.{List}
 use mathlib.Core.Logic.{_⊎_, inl, inr, ⊎-elim}
@@ -167,3 +167,10 @@ accepted-new {o} new old h = choice (o .number) new old (h .is-zero)
 pub refused-old : {o : Outcome} (new old : List ℕ) → Refused o → whenAccepted o new old ≡ old
 unfolding whenAccepted
 refused-old {o} new old h = other (o .number) new old (h .is-positive)
+
+-- in code checks are chained from the left, in definitions from the right
+pub andThen-assoc : (a b c : Outcome) → (a andThen b) andThen c ≡ a andThen (b andThen c)
+andThen-assoc a b c = ⊎-elim
+    (λ (h : Accepted a). rw (goes-on b h, goes-on (b andThen c) h))
+    (λ (r : Refused a). rw (stops b r, stops (b andThen c) r, stops c r))
+    (accepted-or-refused a)

@@ -1,4 +1,4 @@
--- Words packed into bytes. Document 01, "Circuit words", its first sentence: all words are u32; in a file or byte slice
+-- Words packed into bytes. RULES 2, its first sentence: all words are u32; in a file or byte slice
 -- each is 4 bytes, least significant first.
 use mathlib.Core.List.{List, [], _∷_}
 use Prim.Native.Nat.{ℕ, _+_, _*_, _/_, _%_}

@@ -1,6 +1,6 @@
 -- The law of division in place: dividend = remainder + (low + X^m) · quotient, whatever is divided; so by the target of any points
 -- the remainder is 0 exactly where the dividend is 0 at all of them, and then the other words are the quotient.
--- Document 01, "Polynomials".
+-- RULES 4.
 use mathlib.Core.Path.{_≡_, refl, ap}
 use mathlib.Core.List.{List, [], _∷_, _++_}
 use Prim.Native.Nat.{ℕ, zero, suc, _+_, _*_, _-_, _%_, _<_, _≤_}

@@ -1,5 +1,5 @@
 -- The law of times (X − x) in place: a, then the words of g, become the words of a + (X − x) · g.
--- With a = 0 and g the target of some points, the target of these points and x. Document 01, "Polynomials".
+-- With a = 0 and g the target of some points, the target of these points and x. RULES 4.
 use mathlib.Core.Path.{_≡_, refl, ap}
 use mathlib.Core.List.{List, [], _∷_}
 use Prim.Native.Nat.{ℕ, suc, _+_, _*_, _<_}

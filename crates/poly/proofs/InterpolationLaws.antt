@@ -1,6 +1,6 @@
 -- The law of interpolation in place: y, then a list g through the slopes from y at the points xs, become y + (X − x) · g, which goes
 -- through y at x and through the values at xs. At consecutive points the slopes are the differences, by the table of inverses.
--- Document 01, "Polynomials".
+-- RULES 4.
 use mathlib.Core.Path.{_≡_, refl, _∙_, ap}
 use mathlib.Core.List.{List, [], _∷_}
 use Prim.Native.Nat.{ℕ, zero, suc, _+_, _*_, _-_, _%_, _<_, _≤_}

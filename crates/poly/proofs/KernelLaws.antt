@@ -1,4 +1,4 @@
--- The laws at the field's p and the points 1..m, as the callers of the loops want them. Document 01, "Polynomials".
+-- The laws at the field's p and the points 1..m, as the callers of the loops want them. RULES 4.
 use mathlib.Core.Path.{_≡_}
 use mathlib.Core.List.{List}
 use Prim.Native.Nat.{ℕ, _≤_}

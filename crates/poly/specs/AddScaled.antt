@@ -1,5 +1,5 @@
 -- The words of dst + k · src: what the one inner loop of product, division and blinding writes.
--- Document 01, "Polynomials": a multiple of a list of words is added into a list of words.
+-- RULES 4: a multiple of a list of words is added into a list of words.
 use mathlib.Core.List.{List, [], _∷_}
 use Prim.Native.Nat.{ℕ, _+_, _*_, _%_}
 

@@ -1,5 +1,5 @@
 -- Division by a monic list, in place: the room of the dividend ends as the words of the remainder, then those of the quotient.
--- Document 01, "Polynomials": A'B' − C' = Z H'; "Easy errors here": a remainder that is not 0 is not dropped.
+-- RULES 4: A'B' − C' = Z H'; a remainder that is not 0 is not dropped.
 use mathlib.Core.List.{List, [], _∷_}
 use Prim.Native.Nat.{ℕ, zero, suc, _-_}
 use lib.ListN.{length, getD, take, drop}

@@ -1,4 +1,4 @@
--- Times (X − x), in place. Document 01, "Polynomials": target Z(X) is the product of (X − i).
+-- Times (X − x), in place. RULES 4: target Z(X) is the product of (X − i).
 -- The list has its first word beside the factor: a, then the words of g, stand for a + (X − x) · g.
 use mathlib.Core.List.{List, [], _∷_}
 use Prim.Native.Nat.{ℕ, _+_, _*_, _%_}

@@ -1,5 +1,5 @@
 -- The list through given values at consecutive points, in place, with a table t of the inverses of 1, 2, ..
--- Document 01, "Polynomials": a column has m words and takes a(i,j) at point i for i = 1..m.
+-- RULES 4: a column has m words and takes a(i,j) at point i for i = 1..m.
 use mathlib.Core.List.{List, [], _∷_}
 use Prim.Native.Nat.{ℕ, zero, suc, _+_, _*_, _-_, _%_}
 use lib.ListN.{length}

@@ -1,5 +1,5 @@
 -- The product of two lists, kept whole in a room of words.
--- Document 01, "Polynomials": before division the product is kept whole, up to 513 coefficients.
+-- RULES 4: before division the product is kept whole, up to 513 coefficients.
 use mathlib.Core.List.{List, [], _∷_, _++_}
 use Prim.Native.Nat.{ℕ, _-_}
 use lib.ListN.{length, replicate, take, drop}

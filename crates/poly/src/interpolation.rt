@@ -1,4 +1,4 @@
-// Interpolation in place (document 01, "Polynomials"): the list through given values at the points 1..m.
+// Interpolation in place (RULES 4): the list through given values at the points 1..m.
 // Newton's divided differences, then Newton's form to powers: m² / 2 steps each.
 ghost use mathlib.Core.Path.{_≡_};
 ghost use Prim.Native.Nat.{_+_, _≤_, _<_};

@@ -1,4 +1,4 @@
-// Polynomial loops on slices (document 01, "Polynomials"): a list of field words, power 0 first, lies in a slice.
+// Polynomial loops on slices (RULES 4): a list of field words, power 0 first, lies in a slice.
 // Each kernel has one loop, and its contract names every word that the lent slices hold at the end.
 ghost use mathlib.Core.Path.{_≡_};
 ghost use Prim.Native.Nat.{_+_, _-_, _%_, _≤_, _<_};

@@ -1,6 +1,6 @@
 // Worked examples of the polynomial loops, a line each, words in decimals with a space between:
 // a value at 2 and at 0; a multiple added from word 1 on; the target of 1, 2 and that of 5, 6, and of 1..256 its first and last
-// word and its values at 0, 256 and 257; the columns of document 01, lines b and c; line b once more, from Z / (X − 1); the list
+// word and its values at 0, 256 and 257; the columns of the rules, lines b and c; line b once more, from Z / (X − 1); the list
 // that is 1 at 256 and 0 at 1..255, its first and last word and its values at 255, 256 and 257; 5 + 7 X + Z (8 + 8 X + 2 X²)
 // divided by Z; and words 0, 1, 256, 511 and 512 of a product of 257 words by 257, with its value at 3.
 ghost use Prim.Native.Nat.{_<_, _≤_};

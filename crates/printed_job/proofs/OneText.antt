@@ -1,5 +1,5 @@
 -- The program's text is determined by the bytes of its file, and the answer check at its end accepts.
--- Document 01, "What the contracts have to say".
+-- RULES 10.
 use mathlib.Core.List.{List}
 use mathlib.Core.Logic.{⊎-elim}
 use mathlib.Core.Path.{_≡_, sym, _∙_, ap}

@@ -1,4 +1,4 @@
--- What the job program prints for the bytes of its file. Document 01, "The program and one run whole".
+-- What the job program prints for the bytes of its file. RULES 7.
 use mathlib.Core.List.{List, [], _∷_, _++_}
 use mathlib.Core.Path.{_≡_}
 use Prim.Native.Nat.{ℕ}

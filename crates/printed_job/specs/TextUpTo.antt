@@ -1,4 +1,4 @@
--- Text in lent bytes: what the bytes up to an end say; those behind are kept. Document 01, "The program and one run whole".
+-- Text in lent bytes: what the bytes up to an end say; those behind are kept. RULES 7.
 use mathlib.Core.List.{List}
 use Prim.Native.Nat.{ℕ, _≤_}
 use lib.ListN.{length, take, replicate}

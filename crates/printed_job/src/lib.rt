@@ -1,4 +1,4 @@
-// What the job program prints for the bytes of its file: document 01, "The program and one run whole".
+// What the job program prints for the bytes of its file: RULES 7.
 ghost use mathlib.Core.List.{[], _∷_};
 ghost use mathlib.Core.Path.{_≡_};
 ghost use Prim.Native.Nat.{_+_, _*_, _≤_};

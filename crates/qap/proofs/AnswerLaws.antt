@@ -1,5 +1,5 @@
 -- The four answers: public and private parts make the whole, so the first three with the public parts added are
--- A'(s), B'(s), C'(s), and the answer check's equality is that of the quotient at s. Document 01, "Query and checks".
+-- A'(s), B'(s), C'(s), and the answer check's equality is that of the quotient at s. RULES 5.
 use mathlib.Core.Path.{_≡_, sym}
 use mathlib.Core.List.{List}
 use Prim.Native.Nat.{ℕ, suc, _+_, _*_, _-_, _%_, _≤_}

@@ -1,5 +1,5 @@
 -- What the two checks accept, over the calls' contracts: the division check exactly the quotient, and the answer check
--- every answer that the answers call gives, beside the public section that is handed out. Document 01, "Query and checks".
+-- every answer that the answers call gives, beside the public section that is handed out. RULES 5.
 use mathlib.Core.Path.{_≡_, sym, _∙_, ap}
 use mathlib.Core.List.{List}
 use mathlib.Core.Logic.{⊎-elim}

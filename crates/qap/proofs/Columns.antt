@@ -1,5 +1,5 @@
 -- The column calls: what an accepted call was asked for, and that their contracts determine the result. A column is the one
--- list through its coefficients; all columns are so place by place. Document 01, "Polynomials".
+-- list through its coefficients; all columns are so place by place. RULES 4.
 use mathlib.Core.List.{List, []}
 use mathlib.Core.Path.{_≡_, sym, _∙_}
 use Prim.Native.Nat.{ℕ, zero, suc, _+_, _*_, _-_, _≤_, _<_}

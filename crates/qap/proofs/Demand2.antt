@@ -1,4 +1,4 @@
--- Demand 2 over the definitions: the quotient's formula, and its last two words with blinders 0. Document 01, "Polynomials".
+-- Demand 2 over the definitions: the quotient's formula, and its last two words with blinders 0. RULES 4.
 use mathlib.Core.Path.{_≡_}
 use mathlib.Core.List.{List}
 use Prim.Native.Nat.{ℕ, _-_}

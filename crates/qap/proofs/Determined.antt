@@ -1,5 +1,5 @@
 -- Every contract of specs/Calls.antt determines its call's result: any two that it admits are equal.
--- Document 01, "What the contracts have to say".
+-- RULES 10.
 use mathlib.Core.Path.{_≡_, sym, _∙_, ap}
 use mathlib.Core.List.{List}
 use mathlib.Core.Logic.{⊎-elim}

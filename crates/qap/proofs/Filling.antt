@@ -1,4 +1,4 @@
--- How a call meets its contract: refused, nothing was written; done, the words are right. Document 01, "Numbers a call gives back".
+-- How a call meets its contract: refused, nothing was written; done, the words are right. RULES 6.
 use mathlib.Core.Path.{_≡_, refl}
 use mathlib.Core.List.{List}
 use Prim.Native.Nat.{ℕ}

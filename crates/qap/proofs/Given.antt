@@ -1,5 +1,5 @@
 -- Past all other refusals a quotient is given exactly where every row holds; else 10 names the lowest row that fails.
--- Demand 2, over the quotient call's contract. Document 01, "Numbers a call gives back".
+-- Demand 2, over the quotient call's contract. RULES 6.
 use mathlib.Core.Path.{_≡_, sym, _∙_}
 use mathlib.Core.List.{List}
 use mathlib.Core.Logic.{⊎-elim}

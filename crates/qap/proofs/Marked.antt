@@ -1,5 +1,5 @@
 -- The marked table: the verdicts are computed, the words pass computed tests of the definitions, and the contracts determine the rest.
--- Document 01, "Marked examples".
+-- RULES 9.
 use mathlib.Core.Path.{_≡_, refl, sym, _∙_, ap}
 use mathlib.Core.List.{List, [], _∷_}
 use Prim.Native.Nat.{ℕ, suc}

@@ -1,5 +1,5 @@
 -- Each call's contract determines its result: any two that it admits are equal. Columns have their own file.
--- Document 01, "What the contracts have to say".
+-- RULES 10.
 use mathlib.Core.Path.{_≡_, sym, _∙_}
 use mathlib.Core.List.{List}
 use mathlib.Core.Logic.{⊎-elim}

@@ -1,5 +1,5 @@
 -- A part of A, B or C is the one list that takes the row sums at the points: so it exists, once, and is found without columns.
--- Document 01, "Polynomials".
+-- RULES 4.
 use mathlib.Core.Path.{_≡_}
 use mathlib.Core.List.{List}
 use Prim.Native.Nat.{ℕ, suc, _+_, _-_}

@@ -1,4 +1,4 @@
--- Number 0 has place 0, whichever call gives it: the first line of document 01's table.
+-- Number 0 has place 0, whichever call gives it: the first line of the table of RULES 6.
 use mathlib.Core.List.{List}
 use Prim.Native.Nat.{ℕ, _+_, _*_}
 use lib.Dec.{lit<}

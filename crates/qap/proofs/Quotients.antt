@@ -1,5 +1,5 @@
 -- The quotient of a circuit and an assignment: it exists exactly where every row holds, and is the only one.
--- Document 01, "Polynomials".
+-- RULES 4.
 use mathlib.Core.Path.{_≡_}
 use mathlib.Core.List.{List}
 use Prim.Native.Nat.{ℕ, zero, suc, _<_, _≤_}

@@ -1,5 +1,5 @@
 -- What accepted inputs give: distinct points, no more public columns than columns, and a target that is not 0 at a point on no row.
--- Document 01, "Numbers a call gives back".
+-- RULES 6.
 use mathlib.Core.Bool.{true, not}
 use mathlib.Core.Path.{_≡_}
 use mathlib.Core.List.{List}

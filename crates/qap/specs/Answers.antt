@@ -1,5 +1,5 @@
 -- The four answers at a point, and what the two checks compare.
--- Document 01, "Query and checks".
+-- RULES 5.
 use mathlib.Core.Path.{_≡_}
 use mathlib.Core.List.{List}
 use Prim.Native.Nat.{ℕ, _+_, _*_, _%_}

@@ -1,4 +1,4 @@
--- The contract of each call of document 01: number, place, returned words and the final words of a lent buffer.
+-- The contract of each call of the rules: number, place, returned words and the final words of a lent buffer.
 -- "Except for 0, output buffers keep their words, and answers held in a result are all 0."
 use mathlib.Core.Path.{_≡_}
 use mathlib.Core.List.{List}

@@ -1,5 +1,5 @@
 -- What demand 3 speaks of: exactly one blinder triple, the first three answers, and the fourth as what follows from them.
--- Document 00, demand 3, over the definitions of specs/Answers.antt and the answers call's record in specs/Calls.antt.
+-- RULES 10, demand 3, over the definitions of specs/Answers.antt and the answers call's record in specs/Calls.antt.
 use mathlib.Core.Path.{_≡_}
 use mathlib.Core.List.{List}
 use Prim.Native.Nat.{ℕ, _<_, _≤_}

@@ -1,4 +1,4 @@
--- Document 01, "Marked examples": lines a to m, as what the calls' contracts admit.
+-- RULES 9: lines a to m, as what the calls' contracts admit.
 -- K is the circuit of input J; its assignments are written as they stand, counts included.
 use mathlib.Core.Path.{_≡_}
 use mathlib.Core.List.{List, [], _∷_}

@@ -1,5 +1,5 @@
 -- The polynomials of a circuit and an assignment: columns, their sums, target, and the blinded quotient.
--- Document 01, "Polynomials", in its order; each is the one list with the named property (proofs/Parts.antt, proofs/Quotients.antt).
+-- RULES 4, in its order; each is the one list with the named property (proofs/Parts.antt, proofs/Quotients.antt).
 use mathlib.Core.Path.{_≡_}
 use mathlib.Core.List.{List}
 use Prim.Native.Nat.{ℕ, suc, _+_, _-_, _<_, _≤_}

@@ -1,5 +1,5 @@
--- Which number and place each call gives: its checks in document 01's order
--- (circuit from the front, then 6, 7, 9, 12, 11, 8, 10), "Numbers a call gives back". 13 is a check's own (specs/Calls.antt).
+-- Which number and place each call gives: its checks in the rules' order
+-- (circuit from the front, then 6, 7, 9, 12, 11, 8, 10), RULES 6. 13 is a check's own (specs/Calls.antt).
 use mathlib.Core.Bool.{not}
 use mathlib.Core.List.{List, [], _∷_}
 use Prim.Native.Nat.{ℕ, _+_, _*_, _-_}

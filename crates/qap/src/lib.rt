@@ -1,4 +1,4 @@
-// The calls of document 01 over circuits, assignments and points.
+// The calls of the rules over circuits, assignments and points.
 
 // d1, d2, d3
 pub struct Blinders {

@@ -1,4 +1,4 @@
-// The quotient that the box gives (document 01, "Polynomials"). The call asks nothing of its input; refused, it changes no word lent to it.
+// The quotient that the box gives (RULES 4). The call asks nothing of its input; refused, it changes no word lent to it.
 ghost use mathlib.Core.Path.{_≡_};
 ghost use Prim.Native.Nat.{_+_, _≤_};
 ghost use lib.ListN.{length};

@@ -1,4 +1,4 @@
-// One entry of a section by 3, 4, 5 (document 01, "Numbers a call gives back").
+// One entry of a section by 3, 4, 5 (RULES 6).
 ghost use mathlib.Core.Path.{_≡_};
 ghost use Prim.Native.Nat.{_+_, _≤_};
 ghost use lib.ListN.{length};

@@ -1,4 +1,4 @@
-// The circuit reader: for any words exactly one number and place, numbers 0 to 5 of document 01's table.
+// The circuit reader: for any words exactly one number and place, numbers 0 to 5 of the table of RULES 6.
 ghost use mathlib.Core.Path.{_≡_};
 ghost use Prim.Native.Nat.{_+_, _≤_};
 ghost use lib.ListN.{length};

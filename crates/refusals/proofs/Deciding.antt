@@ -1,5 +1,5 @@
 -- How a function decides a statement, and how a call that goes by it meets the contract of a check.
--- Document 01, "Query and checks".
+-- RULES 5.
 use mathlib.Core.Bool.{Bool, true, false}
 use mathlib.Core.Path.{_≡_, refl, sym, _∙_}
 use Rattle.outcome.specs.declared.Outcome.{Outcome}

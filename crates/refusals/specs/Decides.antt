@@ -1,5 +1,5 @@
 -- What a function that answers yes or no says of a statement.
--- Document 01, "Query and checks": a check accepts exactly if its equality is true.
+-- RULES 5: a check accepts exactly if its equality is true.
 use mathlib.Core.Bool.{Bool, true, false}
 use mathlib.Core.Path.{_≡_}
 

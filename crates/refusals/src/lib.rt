@@ -1,4 +1,4 @@
-// The refusals that calls share (document 01, "Numbers a call gives back"): 8, 10, 11, 12 and 13, each by its own definition.
+// The refusals that calls share (RULES 6): 8, 10, 11, 12 and 13, each by its own definition.
 ghost use mathlib.Core.Path.{_≡_};
 ghost use Prim.Native.Nat.{_≤_};
 ghost use lib.ListN.{length};
@@ -68,7 +68,7 @@ pub fn blinders_verdict(d: Blinders) -> Outcome
     assignment::words_verdict(&words, 12, 0)
 }
 
-// Circuit, assignment and blinders, in document 01's order.
+// Circuit, assignment and blinders, in the rules' order.
 pub fn ready_verdict(circuit: &[u32], values: &[u32], d: Blinders) -> Outcome
     ensures { λ r. ⌜ r ≡ readyVerdict (now (circuit .entry)) (now (values .entry)) d ⌝ }
 {

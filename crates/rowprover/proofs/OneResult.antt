@@ -1,5 +1,5 @@
 -- Each exported function's contract determines the returned integer and every output byte.
--- Document 01, "What the contracts have to say".
+-- RULES 10.
 use mathlib.Core.List.{List}
 use mathlib.Core.Path.{_≡_, sym, _∙_, ap}
 use Prim.Native.Nat.{ℕ}

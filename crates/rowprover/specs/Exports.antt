@@ -1,5 +1,5 @@
 -- The two exported functions on byte slices: what each returns and every byte it leaves.
--- Document 01, "The program and one run whole"; words are least significant byte first (`unpacked`, `packed`).
+-- RULES 7; words are least significant byte first (`unpacked`, `packed`).
 use mathlib.Core.List.{List}
 use mathlib.Core.Path.{_≡_}
 use Prim.Native.Nat.{ℕ, _+_, _*_}

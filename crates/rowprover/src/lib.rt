@@ -1,4 +1,4 @@
-// The two functions that a host calls on bytes (document 01, "The program and one run whole"). Neither asks anything of its input.
+// The two functions that a host calls on bytes (RULES 7). Neither asks anything of its input.
 ghost use Rattle.rowprover.specs.Exports.{AnswersExport, CheckExport};
 
 mod answering;

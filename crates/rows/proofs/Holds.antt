@@ -1,4 +1,4 @@
--- Document 01, number 10: no refusal exactly where every row holds; else the place is a row that fails, and every lower one holds.
+-- RULES 6, number 10: no refusal exactly where every row holds; else the place is a row that fails, and every lower one holds.
 use mathlib.Core.List.{List}
 use mathlib.Core.Path.{_≡_, sym, _∙_, ap}
 use Prim.Native.Nat.{ℕ, suc, _-_, _≤_, _<_}

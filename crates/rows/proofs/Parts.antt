@@ -1,5 +1,5 @@
 -- Public and private sums make the whole, the sums that the calls ask for can be made, and the public sums of an
--- assignment are those of its public section alone. Document 01, "Query and checks".
+-- assignment are those of its public section alone. RULES 5.
 use mathlib.Core.List.{List}
 use mathlib.Core.Path.{_≡_, sym, ap}
 use Prim.Native.Nat.{ℕ, suc, _+_, _*_, _-_, _≤_}

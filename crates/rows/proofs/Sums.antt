@@ -1,5 +1,5 @@
 -- The loop's words are the row sums: adding an entry to its row makes the sums over one entry more, and the sums over all
--- entries of a section are those over the columns (document 01, "Polynomials"). Row sums are as many as rows, and field words.
+-- entries of a section are those over the columns (RULES 4). Row sums are as many as rows, and field words.
 use mathlib.Core.Bool.{Bool, true, false}
 use mathlib.Core.List.{List}
 use mathlib.Core.Path.{_≡_, refl, sym, _∙_, ap}

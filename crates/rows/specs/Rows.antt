@@ -1,5 +1,5 @@
 -- Row sums, and when the rows hold: A times B equals C at each row, in the field.
--- Document 01, "Polynomials" (sums over all columns), "Query and checks" (private and public parts), number 10.
+-- RULES 4 (sums over all columns), RULES 5 (private and public parts), number 10.
 use mathlib.Core.List.{List}
 use Prim.Native.Nat.{ℕ, suc, _+_, _-_, _*_, _%_, _≤_, _<_}
 use lib.Dec.{eqb}

@@ -1,5 +1,5 @@
 -- What the loops that sum rows do, entry by entry, and what they ask; proofs/Sums.antt shows that they give specs/Rows.antt's sums.
--- Document 01, "Polynomials".
+-- RULES 4.
 use mathlib.Core.Bool.{true, false}
 use mathlib.Core.List.{List}
 use mathlib.Core.Path.{_≡_}

@@ -1,4 +1,4 @@
-// Row sums of a matrix in one pass over its listed entries, and the lowest failing row (document 01, number 10).
+// Row sums of a matrix in one pass over its listed entries, and the lowest failing row (RULES 6, number 10).
 ghost use mathlib.Core.Path.{_≡_};
 ghost use Prim.Native.Nat.{_+_, _≤_, _<_};
 ghost use lib.ListN.{length};

@@ -1,4 +1,4 @@
-// What the programs with worked examples share: words in decimals, and the circuits K and K1 of document 01, "Marked examples".
+// What the programs with worked examples share: words in decimals, and the circuits K and K1 of RULES 9.
 use libc::STDOUT_FILENO;
 
 pub const K: [u32; 27] = [

@@ -1,4 +1,4 @@
-// The target call (document 01, "Polynomials"): m alone. It asks nothing of its input; refused, it changes no word lent to it.
+// The target call (RULES 4): m alone. It asks nothing of its input; refused, it changes no word lent to it.
 ghost use mathlib.Core.Path.{_≡_};
 ghost use lib.ListN.{length};
 ghost use Rattle.outcome.specs.Verdict.{Accepted};

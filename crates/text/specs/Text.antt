@@ -1,5 +1,5 @@
 -- Numbers as lines of text, bytes as ASCII codes: 48 is the digit 0, 32 a space, 10 a newline.
--- Document 01, "The program and one run whole": decimals, one space between, newline after each line.
+-- RULES 7: decimals, one space between, newline after each line.
 use mathlib.Core.Bool.{true, false}
 use mathlib.Core.List.{List, [], _∷_, _++_}
 use mathlib.Core.Path.{_≡_}

@@ -1,4 +1,4 @@
-// Numbers as lines of text: document 01, "The program and one run whole". The text goes into lent bytes, from `at` on; a call gives the
+// Numbers as lines of text: RULES 7. The text goes into lent bytes, from `at` on; a call gives the
 // index behind what it wrote, where the next call goes on.
 ghost use mathlib.Core.List.{[], _∷_, _++_};
 ghost use Prim.Native.Nat.{_+_, _*_, _≤_};

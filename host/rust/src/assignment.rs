@@ -1,4 +1,4 @@
-//! Document 01, "Assignment words": two sections, public and private, with refusals 6 and 7.
+//! RULES 3: two sections, public and private, with refusals 6 and 7.
 
 use crate::circuit::Circuit;
 use crate::field::is_field_word;

@@ -1,4 +1,4 @@
-//! Document 01's calls on words, each with its refusals in the table's order: circuit, 6, 7, 9, 12, 11, 8, 10, 13.
+//! The rules' calls on words, each with its refusals in the table's order: circuit, 6, 7, 9, 12, 11, 8, 10, 13.
 //! A refused call writes nothing.
 
 use crate::assignment;

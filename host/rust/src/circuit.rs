@@ -1,4 +1,4 @@
-//! Document 01, "Circuit words": the reader with its refusals 1 to 5, and the rows of the three matrices.
+//! RULES 2: the reader with its refusals 1 to 5, and the rows of the three matrices.
 
 use crate::field::{add, is_field_word, mul};
 use crate::refusal::{need, Verdict};

@@ -1,4 +1,4 @@
-//! Document 01's two exported functions, as safe functions on byte slices.
+//! The rules' two exported functions, as safe functions on byte slices.
 
 use crate::calls::{answer_check, rows_hold};
 use crate::job::{well_sized, Job};

@@ -1,4 +1,4 @@
-//! Document 01, "The field": words from 0 to p − 1, held in a u64 so that a product never overflows.
+//! RULES 1: words from 0 to p − 1, held in a u64 so that a product never overflows.
 
 pub const P: u64 = 2_013_265_921;
 

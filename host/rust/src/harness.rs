@@ -5,7 +5,7 @@ use crate::exported;
 use crate::jobs::cases::Case;
 use crate::linear;
 
-/// Something with the two exported functions of document 01. `Err` says why there is no result that counts.
+/// Something with the two exported functions of the rules. `Err` says why there is no result that counts.
 pub trait Exports {
     fn answers(&mut self, job: &[u8], out: &mut [u8]) -> Result<u64, String>;
     fn check(&mut self, circuit: &[u8], public: &[u8], query: &[u8]) -> Result<u64, String>;

@@ -1,4 +1,4 @@
-//! Document 01, "The program and one run whole": a job's bytes and what the program writes for them.
+//! RULES 7: a job's bytes and what the program writes for them.
 
 use crate::assignment;
 use crate::calls::{field_words, off_the_rows, rows_hold};

@@ -1,8 +1,8 @@
-//! The row prover a second time, from document 01 alone and by other methods than the product's: it is what
+//! The row prover a second time, from the rules alone and by other methods than the product's: it is what
 //! the product is compared with, so it is written to be read, and shares no code with it.
 //!
 //! Bottom up: `field`, `poly`, `qap` are the mathematics; `refusal`, `circuit`, `assignment` read words;
-//! `calls`, `job`, `exported` are document 01's calls, program and exported functions. `linear` is the
+//! `calls`, `job`, `exported` are the rules' calls, program and exported functions. `linear` is the
 //! best-known method for the two exported functions, for benchmarks. `jobs` makes inputs, `harness` compares,
 //! `served` calls the product's two functions in a process of their own.
 

@@ -1,4 +1,4 @@
-//! Document 01, "Polynomials", over an accepted circuit: columns by Lagrange's formula, the quotient through
+//! RULES 4, over an accepted circuit: columns by Lagrange's formula, the quotient through
 //! its values at m + 1 points that are no rows. No polynomial is ever multiplied or divided here.
 
 use crate::circuit::{Circuit, A, B, C};

@@ -1,4 +1,4 @@
-//! Document 01, "Numbers a call gives back". The numbers are written as the table prints them.
+//! RULES 6. The numbers are written as the table prints them.
 
 #[derive(Clone, Copy, Debug, PartialEq, Eq)]
 pub struct Refusal {

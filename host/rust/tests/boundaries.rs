@@ -1,4 +1,4 @@
-//! The cases stand at the boundaries: each word that document 01 bounds comes with the last value that is allowed and
+//! The cases stand at the boundaries: each word that the rules bound comes with the last value that is allowed and
 //! the first that is not, in generated cases, for both exported functions.
 
 use second::circuit::Circuit;

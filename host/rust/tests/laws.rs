@@ -1,4 +1,4 @@
-//! Laws of document 01 and the demands, on generated jobs: the second program against schoolbook arithmetic that
+//! Laws of the rules and the demands, on generated jobs: the second program against schoolbook arithmetic that
 //! it does not use itself.
 
 use second::calls;

@@ -1,4 +1,4 @@
-//! Document 01's printed examples: marked lines a to m, job J with its five lines, and the run-only lines.
+//! The rules' printed examples: marked lines a to m, job J with its five lines, and the run-only lines.
 
 use second::calls::*;
 use second::refusal::{number_and_place, refuse};

@@ -1,4 +1,4 @@
-//! The second program as an executable: reads a job from standard input, writes document 01's lines.
+//! The second program as an executable: reads a job from standard input, writes the rules' lines.
 
 use std::io::{self, Read, Write};
 

@@ -1,4 +1,4 @@
-//! Inputs of document 01's calls on words that no exported function reaches: target, columns, quotient and the
+//! Inputs of the rules' calls on words that no exported function reaches: target, columns, quotient and the
 //! division check. Numbers 8 (with other lengths than 16) and 9 come from here.
 
 use super::chance::Chance;

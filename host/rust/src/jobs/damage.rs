@@ -5,7 +5,7 @@ use super::sketch::Sketch;
 use crate::field::P;
 use crate::job::MOST_BYTES;
 
-/// The words at which some range of document 01 begins or ends, or arithmetic would wrap.
+/// The words at which some range of the rules begins or ends, or arithmetic would wrap.
 pub const EDGE_WORDS: [u32; 16] = [
     0,
     1,

@@ -5,7 +5,7 @@ use super::damage::EDGE_WORDS;
 use crate::exported::OUT_BYTES;
 use crate::words::to_bytes;
 
-/// Document 01's input J, and a job over its circuit K1 (one row, q = 1, an empty section C).
+/// The rules' input J, and a job over its circuit K1 (one row, q = 1, an empty section C).
 const JOBS: [&[u32]; 2] = [
     &[
         2, 2, 4, 2, 1, 3, 1, 2, 4, 1, 3, 1, 3, 1, 2, 1, 2, 2, 3, 1, 2, 1, 4, 1, 2, 2, 1, 2, 1, 45, 2, 3, 9,
