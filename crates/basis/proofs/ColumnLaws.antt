@@ -21,7 +21,8 @@ use Rattle.algebra.proofs.Roots.{length-divided, divided-zero}
 use Rattle.algebra.proofs.Target.{length-target, target-zero}
 use Rattle.algebra.proofs.Without.{divided-target}
 use Rattle.poly.specs.AddScaled.{scaled}
-use Rattle.poly.specs.Product.{zeros}
+use Rattle.slices.specs.Zeros.{zeros}
+use Rattle.slices.proofs.Rooms.{length-zeros}
 use Rattle.poly.proofs.ScaledLaws.{length-scaled, words-scaled, scaled-sum}
 use Rattle.basis.specs.Column.{AddedFirst}
 
@@ -98,10 +99,6 @@ module _ {p : ℕ} {xs : List ℕ} {y : ℕ → ℕ} {n : ℕ} {old f : List ℕ
           (≈-plus (value-added (getD xs k 0))
           (≈-times d (divided-zero prime (target p xs) differ (zero-at .zero-at n inside) (zero-at .zero-at k l))))
           (omega arith)
-
-pub length-zeros : (n : ℕ) → length (zeros n) ≡ n
-unfolding zeros
-length-zeros n = length-replicate {A = ℕ} n 0
 
 value-zeros : (n s : ℕ) → value (zeros n) s ≡ 0
 unfolding value zeros

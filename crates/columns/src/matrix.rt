@@ -3,7 +3,6 @@ ghost use mathlib.Core.Path.{_≡_};
 ghost use Prim.Native.Nat.{_+_, _≤_, _<_};
 ghost use lib.ListN.{length};
 ghost use Rattle.field.specs.Field.{p};
-ghost use Rattle.poly.specs.Product.{zeros};
 ghost use Rattle.basis.specs.Column.{Prepared};
 ghost use Rattle.circuit.specs.Circuit.{rows};
 ghost use Rattle.circuit.specs.WellFormed.{Formed};
@@ -60,13 +59,6 @@ pub fn columns_verdict(circuit: &[u32], matrix: u32, size: usize) -> Outcome
     refusals::length_verdict(size, n * m)
 }
 
-// Room for one list of words, at most as many as a target has. It is made by a call so that proofs see a list and not its words.
-fn room() -> [u32; 257]
-    ensures { λ r. ⌜ r ≡ zeros 257 ⌝ }
-{
-    [0u32; 257]
-}
-
 // The target and the basis weights of 1..m, into m + 1 and m words.
 fn prepare(z: &mut [u32], weights: &mut [u32])
     requires { ⌜ (length (now z) ≡ length (now weights) + 1) × (0 < length (now weights)) × (length (now weights) ≤ 256) ⌝ }
@@ -84,7 +76,7 @@ fn write_column(circuit: &[u32], matrix: usize, j: u32, z: &[u32], weights: &[u3
     ensures { λ _. ⌜ Column (now (circuit .entry)) matrix j (now (out .exit)) ⌝ }
 {
     let m = out.len();
-    let mut values = room();
+    let mut values = slices::room();
     crate::coefficients::column_values(circuit, matrix, j, &mut values[..m]);
     basis::column_through(out, &values[..m], z, weights);
 }
@@ -127,8 +119,8 @@ pub fn fill_columns(circuit: &[u32], matrix: usize, first: u32, count: usize, ou
 {
     let m = circuit::counts::rows_of(circuit);
     let end = m + 1;
-    let mut z = room();
-    let mut weights = room();
+    let mut z = slices::room();
+    let mut weights = slices::room();
     prepare(&mut z[..end], &mut weights[..m]);
     write_columns(circuit, matrix, first, count, &z[..end], &weights[..m], out);
 }

@@ -12,7 +12,8 @@ use Rattle.algebra.proofs.Polynomial.{length-sum, length-multiple, length-reduc
 use Rattle.algebra.proofs.Pairing.{pairing, pairings, by-pairings, pairing-sum, pairing-multiple, value-pairing}
 use Rattle.algebra.proofs.Same.{≋-value, ≋-reduced, reduced-words, words-equal}
 use Rattle.poly.specs.AddScaled.{scaled}
-use Rattle.poly.specs.Product.{addProduct, zeros, padded}
+use Rattle.slices.specs.Zeros.{zeros}
+use Rattle.poly.specs.Product.{addProduct, padded}
 use Rattle.poly.proofs.Words.{words-append, words-take, words-drop, words-zero, pairing-append, pairing-zeros}
 use Rattle.poly.proofs.ScaledLaws.{length-scaled, words-scaled, pairing-scaled}
 

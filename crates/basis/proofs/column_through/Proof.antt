@@ -5,9 +5,10 @@ use borrow.Author.Needs.{needs}
 use lib.ListN.{length}
 use Rattle.algebra.proofs.Consecutive.{length-consecutive}
 use Rattle.field.specs.Field.{p}
-use Rattle.poly.specs.Product.{zeros}
+use Rattle.slices.specs.Zeros.{zeros}
+use Rattle.slices.proofs.Rooms.{length-zeros}
 use Rattle.poly.proofs.Words.{words-zero}
-use Rattle.basis.proofs.ColumnLaws.{length-zeros, through-added}
+use Rattle.basis.proofs.ColumnLaws.{through-added}
 use Rattle.basis.proofs.column_through.Statement.{statement}
 use Rattle.basis.proofs.column_through.Tie as tie
 

@@ -3,7 +3,7 @@ use mathlib.Core.Path.{_∙_}
 use native.Mathlib.Omega.{arith}
 use borrow.Author.Needs.{needs}
 use Rattle.field.specs.Field.{p}
-use Rattle.poly.specs.Product.{zeros}
+use Rattle.slices.specs.Zeros.{zeros}
 use Rattle.poly.proofs.ProductLaws.{product-in-zeros}
 use Rattle.poly.proofs.product.Statement.{statement}
 use Rattle.poly.proofs.product.Tie as tie

@@ -1,6 +1,7 @@
 -- The matrix's section is well formed, and the sums over all its entries are those over the columns.
 use mathlib.Core.Path.{_∙_, ap}
 use borrow.Author.Needs.{needs}
+use Rattle.slices.specs.Zeros.{zeros}
 use Rattle.circuit.specs.Totals.{table}
 use Rattle.rows.proofs.Sums.{all-entries}
 use Rattle.circuit.proofs.Tables.{table-zero}
@@ -8,6 +9,7 @@ use Rattle.rows.proofs.row_sums.Statement.{statement}
 use Rattle.rows.proofs.row_sums.Tie as tie
 
 add-entries-requires : tie.Need-add-entries-requires
+unfolding zeros
 add-entries-requires c κs =
     let entry = c .before .before .before .before .before .before .before .before .before in
     let begins = c .before .before .before .before .before .section-start .ensures in (

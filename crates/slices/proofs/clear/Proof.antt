@@ -7,6 +7,7 @@ use borrow.Author.Needs.{needs}
 use borrow.Author.Fill.{fill-none, fill-more}
 use lib.ListN.{length, drop, replicate, length-set}
 use lib.Seq.{drop-length}
+use Rattle.slices.specs.Zeros.{zeros}
 use Rattle.slices.proofs.clear.Statement.{statement}
 use Rattle.slices.proofs.clear.Tie as tie
 
@@ -25,6 +26,7 @@ loop-again c =
     (search needs, simp length-set (search needs), rw (now .inv .2) (fill-more (now .i) 0 _ (omega arith)))
 
 returns : tie.Need-returns Inv-loop μ-loop
+unfolding zeros
 returns c =
     let out = c .before .before .args .out .now in
     let all : c .before .loop .i ≡ length out = omega arith in

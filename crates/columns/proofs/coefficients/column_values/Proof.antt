@@ -1,12 +1,14 @@
 -- The matrix's section is well formed, and all its entries make the column.
 use mathlib.Core.Path.{_∙_, ap}
 use borrow.Author.Needs.{needs}
+use Rattle.slices.specs.Zeros.{zeros}
 use lib.ListN.{replicate}
 use Rattle.columns.proofs.CoefficientLaws.{all-entries}
 use Rattle.columns.proofs.coefficients.column_values.Statement.{statement}
 use Rattle.columns.proofs.coefficients.column_values.Tie as tie
 
 write-entries-requires : tie.Need-write-entries-requires
+unfolding zeros
 write-entries-requires c κs =
     let entry = c .before .before .before .before .before .before .before .before in
     let begins = c .before .before .before .before .before .section-start .ensures in (

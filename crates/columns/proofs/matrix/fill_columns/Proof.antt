@@ -3,7 +3,7 @@ use mathlib.Core.Path.{sym, _∙_}
 use Prim.Native.Nat.{_+_, _≤_}
 use native.Mathlib.Omega.{arith}
 use borrow.Author.Needs.{needs}
-use Rattle.columns.proofs.PartLaws.{Front, Back, front, back}
+use Rattle.slices.proofs.Rooms.{Front, Back, front, back}
 use Rattle.columns.proofs.matrix.fill_columns.Statement.{statement}
 use Rattle.columns.proofs.matrix.fill_columns.Tie as tie
 
@@ -11,10 +11,10 @@ few : (c : tie.After-rows-of) → c .rows-of .result ≤ 256
 few c = let start = c .before .before .before in omega (arith, c .rows-of .ensures, start .pre .0 .row-count .at-most)
 
 z-front : (c : tie.After-room) → Front (c .before .rows-of .result + 1) (c .room .result)
-z-front c = front _ (omega (arith, few (c .before))) (c .room .ensures)
+z-front c = front _ 257 (omega (arith, few (c .before))) (c .room .ensures)
 
 weights-front : (c : tie.After-room2) → Front (c .before .before .rows-of .result) (c .room2 .result)
-weights-front c = front _ (omega (arith, few (c .before .before))) (c .room2 .ensures)
+weights-front c = front _ 257 (omega (arith, few (c .before .before))) (c .room2 .ensures)
 
 z-back : (c : tie.After-prepare) →
     Back (c .before .before .before .before .before .rows-of .result + 1) (c .before .before .before .before .room .result) (c .prepare .last .0)

@@ -3,7 +3,7 @@ use mathlib.Core.Path.{sym, _∙_}
 use native.Mathlib.Omega.{arith}
 use borrow.Author.Needs.{needs}
 use lib.ListN.{length}
-use Rattle.columns.proofs.PartLaws.{Front, Back, front, back}
+use Rattle.slices.proofs.Rooms.{Front, Back, front, back}
 use Rattle.columns.proofs.ColumnLaws.{through-coefs}
 use Rattle.columns.proofs.matrix.write_column.Statement.{statement}
 use Rattle.columns.proofs.matrix.write_column.Tie as tie
@@ -11,7 +11,7 @@ use Rattle.columns.proofs.matrix.write_column.Tie as tie
 values-front : (c : tie.After-room) → Front (length (c .before .before .before .before .before .args .out .now)) (c .room .result)
 values-front c =
     let start = c .before .before .before .before .before in
-    front _ (omega (arith, start .pre .0 .0 .row-count .at-most, start .pre .0 .2)) (c .room .ensures)
+    front _ 257 (omega (arith, start .pre .0 .0 .row-count .at-most, start .pre .0 .2)) (c .room .ensures)
 
 values-back : (c : tie.After-column-values) →
     Back (length (c .before .before .before .before .before .before .before .args .out .now)) (c .before .before .room .result)

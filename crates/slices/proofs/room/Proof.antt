@@ -1,8 +1,8 @@
 -- Zeros word by word are the same list.
 use mathlib.Core.Path.{refl}
-use Rattle.poly.specs.Product.{zeros}
-use Rattle.columns.proofs.matrix.room.Statement.{statement}
-use Rattle.columns.proofs.matrix.room.Tie as tie
+use Rattle.slices.specs.Zeros.{zeros}
+use Rattle.slices.proofs.room.Statement.{statement}
+use Rattle.slices.proofs.room.Tie as tie
 
 returns : tie.Need-returns
 unfolding zeros
