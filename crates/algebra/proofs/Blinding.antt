@@ -1,5 +1,5 @@
 -- Blinding: A'B' − C' = Z H' has a solution exactly where A B − C is 0 at all points; it is the only one of its length,
--- equals H + d1 B + d2 A + d1 d2 Z − d3, and with blinders 0 its last two words are 0. RULES 4.
+-- equals H + d1 B + d2 A + d1 d2 Z − d3, and with blinders 0 the words past the plain quotient's are 0. RULES 4.
 use mathlib.Core.Path.{_≡_, sym, _∙_, ap}
 use mathlib.Core.List.{List, [], _∷_}
 use Prim.Native.Nat.{ℕ, zero, suc, _+_, _*_, _-_, _<_, _≤_}
@@ -9,16 +9,16 @@ use Rattle.algebra.specs.Congruence.{_≈⟨_⟩_}
 use Rattle.algebra.specs.Prime.{Prime}
 use Rattle.algebra.specs.Polynomial.{value, sum, product, reduced, _≋⟨_⟩_}
 use Rattle.algebra.specs.Points.{Distinct, Vanishes, target}
-use Rattle.algebra.specs.Blinding.{Holds, Divides, PlainQuotient, BlindedQuotient, blinded, blindedSum}
+use Rattle.algebra.specs.Blinding.{Holds, Divides, PlainQuotient, BlindedQuotient, blinded, blindedSum, quotientSize}
 use Rattle.algebra.proofs.Congruence.{≈-sym, ≈-plus, ≈-times, ≈-negative, ≈-eq, ≈-words, by}
 use Rattle.algebra.proofs.Pairing.{pairing, pairings, by-pairings, pairing-sum, pairing-multiple}
 use Rattle.algebra.proofs.Inverse.{positive}
-use Rattle.algebra.proofs.Polynomial.{length-sum, length-multiple, length-product, length-reduced, value-sum, value-multiple, value-product}
+use Rattle.algebra.proofs.Polynomial.{length-sum, length-multiple, length-product, length-product-most, length-reduced, value-sum, value-product}
 use Rattle.algebra.proofs.Same.{≋-refl, ≋-sym, ≋-trans, ≋-value, ≋-reduced, reduced-words, words-equal}
 use Rattle.algebra.proofs.Difference.{difference, length-difference, difference-value, difference-sum}
 use Rattle.algebra.proofs.Target.{length-target, target-zero}
 use Rattle.algebra.proofs.Division.{division, target-cancel}
-use Rattle.algebra.proofs.Products.{product-same, products-same, sums-same, product-swap, product-sum-left, product-multiple-left, product-sum-right, product-multiple-right, product-constant}
+use Rattle.algebra.proofs.Products.{product-same, products-same, sums-same, product-swap, product-sum-left, product-sum-right, product-multiple-right, turned, moved, gathered}
 
 -- the equality at a point
 pub divides-value : {p : ℕ} {xs a b c h : List ℕ} → Divides p xs a b c h → (s : ℕ) →
@@ -49,7 +49,7 @@ module _ {p : ℕ} (pos : 0 < p) (xs a b c : List ℕ) where
         (omega arith)));
   }
 
-module _ {p : ℕ} (pos : 0 < p) (xs a b c : List ℕ) (d1 d2 d3 : ℕ) where
+module _ {p : ℕ} (pos : 0 < p) (xs a b c d1 d2 d3 : List ℕ) where
   -- the blinded quotient, from the plain one
   blinded-divides : {h : List ℕ} → Divides p xs a b c h →
       Divides p xs (blinded p xs a d1) (blinded p xs b d2) (blinded p xs c d3) (blindedSum p xs a b d1 d2 d3 h)
@@ -57,8 +57,9 @@ module _ {p : ℕ} (pos : 0 < p) (xs a b c : List ℕ) (d1 d2 d3 : ℕ) where
     equal = by-pairings (λ φ.
         let z = target p xs in
         let plain = rw pairing-sum at (pairings (product a b) (sum c (product z h)) (e .equal) φ) in
-        simp (product-sum-left, product-sum-right, product-multiple-left, product-multiple-right, product-constant, pairing-sum, pairing-multiple)
-        (by (≈-plus plain (≈-sym (≈-negative pos (d3 * pairing z φ)))) (omega (arith, ap (λ (x : ℕ). d2 * x) (product-swap a z φ)))));
+        simp (product-sum-left, product-sum-right, product-multiple-right, pairing-sum)
+        (by (≈-plus plain (≈-sym (≈-negative pos (pairing (product z d3) φ))))
+        (omega (arith, turned a d2 z .paired φ, moved d1 z b .paired φ, gathered d1 d2 z .paired φ, product-swap d3 z φ))));
   }
 
   pub blinded-formula : {h k : List ℕ} → PlainQuotient p xs a b c h → BlindedQuotient p xs a b c d1 d2 d3 k →
@@ -79,14 +80,23 @@ module _ {p : ℕ} (pos : 0 < p) (xs a b c : List ℕ) (d1 d2 d3 : ℕ) where
         let x = getD xs i 0 in
         let z = value (target p xs) x in
         let zero : z ≈⟨ p ⟩ 0 = target-zero pos xs .zero-at i l in
-        let extra = d1 * value b x + d2 * value a x + d1 * d2 * z in
-        let whole = simp (value-product, value-sum, value-multiple) at (≋-value (e .equal) x) in
-        by (≈-plus (≈-plus whole (≈-times (d3 + value h x) zero)) (≈-sym (≈-times extra zero))) (omega arith);
+        let extra = value d1 x * value b x + value d2 x * value a x + value d1 x * value d2 x * z in
+        let whole = simp (value-product, value-sum) at (≋-value (e .equal) x) in
+        by (≈-plus (≈-plus whole (≈-times (value d3 x + value h x) zero)) (≈-sym (≈-times extra zero))) (omega arith);
   }
 
-unblinded : (p : ℕ) (xs a b h : List ℕ) → blindedSum p xs a b 0 0 0 h ≋⟨ p ⟩ h
-unfolding pairing
-unblinded p xs a b h = by-pairings (λ φ. ≈-eq p (simp (pairing-sum, pairing-multiple) (omega arith)))
+-- blinders that are 0 add nothing
+unblinded : {p : ℕ} (xs a b : List ℕ) {d1 d2 d3 : List ℕ} (h : List ℕ) → d1 ≋⟨ p ⟩ [] → d2 ≋⟨ p ⟩ [] → d3 ≋⟨ p ⟩ [] →
+    blindedSum p xs a b d1 d2 d3 h ≋⟨ p ⟩ h
+unfolding pairing product
+unblinded {p} xs a b {d1} {d2} {d3} h z1 z2 z3 = by-pairings (λ φ.
+    let z = target p xs in
+    let left = pairings (product d1 b) [] (products-same z1 (≋-refl p b)) φ in
+    let right = pairings (product d2 a) [] (products-same z2 (≋-refl p a)) φ in
+    let both = pairings (product (product d1 d2) z) [] (products-same (products-same z1 (≋-refl p d2)) (≋-refl p z)) φ in
+    let last = pairings d3 [] z3 φ in
+    simp (pairing-sum, pairing-multiple)
+    (by (≈-plus (≈-plus left right) (≈-plus both (≈-times (p - 1) last))) (omega arith)))
 
 length-square : (a b : List ℕ) → length a ≡ length b → length (product a b) ≡ length a + length b - 1
 unfolding product
@@ -113,24 +123,33 @@ module _ {p : ℕ} (prime : Prime p) (xs a b c : List ℕ) (distinct : Distinct 
       pos : 0 < p
       pos = positive prime
 
-  pub blinded-exists : (d1 d2 d3 : ℕ) → Holds p xs a b c → (h : List ℕ) × BlindedQuotient p xs a b c d1 d2 d3 h
-  blinded-exists d1 d2 d3 holds =
-      let (h, plain) = plain-exists holds in
-      let s = blindedSum p xs a b d1 d2 d3 h in (
-        reduced p s,
-        record {
-          size = simp (length-reduced, length-sum, length-multiple, length-target, plain .size, size-a, size-b) (omega arith);
-          words = reduced-words (positive prime) s;
-          divides = divides-same (positive prime) xs (blinded p xs a d1) (blinded p xs b d2) (blinded p xs c d3) s (reduced p s)
-              (≋-sym (≋-reduced p s)) (blinded-divides (positive prime) xs a b c d1 d2 d3 (plain .divides));
-        },
-      )
+  module _ (d1 d2 d3 : List ℕ) (some : 0 < length d1) (as-long : length d2 ≡ length d1) (as-long-3 : length d3 ≡ length d1) where
+    blinded-size : (h : List ℕ) → length h ≡ length xs - 1 → length (blindedSum p xs a b d1 d2 d3 h) ≡ quotientSize (length xs) (length d1)
+    blinded-size h size =
+        let two = length-product d1 d2 some (omega arith) in
+        let top = length-product (product d1 d2) (target p xs) (omega arith) (omega (arith, length-target p xs)) in
+        simp (length-sum, length-multiple)
+        (omega (arith, two, top, length-target p xs, length-product-most d1 b, length-product-most d2 a, size))
 
-  -- with blinders 0 the last two words are 0
-  pub last-two-zero : {h : List ℕ} → BlindedQuotient p xs a b c 0 0 0 h → (k : ℕ) → length xs ≤ suc k → k ≤ length xs → getD h k 0 ≡ 0
-  last-two-zero {h} q k from to =
-      let pos = positive prime in
-      let (plain, r) = plain-exists (blinded-holds pos xs a b c 0 0 0 (q .divides)) in
-      let same : h ≋⟨ p ⟩ plain = ≋-trans (blinded-formula pos xs a b c 0 0 0 r q) (unblinded p xs a b plain) in
-      let none : getD plain k 0 ≡ 0 = List·getD-eq-default plain 0 (omega (arith, r .size)) in
-      ≈-words (rw none at (same .coefficient k)) (q .words .below k (omega (arith, q .size))) pos
+    pub blinded-exists : Holds p xs a b c → (h : List ℕ) × BlindedQuotient p xs a b c d1 d2 d3 h
+    blinded-exists holds =
+        let (h, plain) = plain-exists holds in
+        let s = blindedSum p xs a b d1 d2 d3 h in (
+          reduced p s,
+          record {
+            size = length-reduced p s ∙ blinded-size h (plain .size);
+            words = reduced-words (positive prime) s;
+            divides = divides-same (positive prime) xs (blinded p xs a d1) (blinded p xs b d2) (blinded p xs c d3) s (reduced p s)
+                (≋-sym (≋-reduced p s)) (blinded-divides (positive prime) xs a b c d1 d2 d3 (plain .divides));
+          },
+        )
+
+    -- with blinders that are 0 the words past the plain quotient's are 0: twice as many as a blinder has
+    pub past-zero : d1 ≋⟨ p ⟩ [] → d2 ≋⟨ p ⟩ [] → d3 ≋⟨ p ⟩ [] → {h : List ℕ} → BlindedQuotient p xs a b c d1 d2 d3 h →
+        (k : ℕ) → length xs ≤ suc k → k < length h → getD h k 0 ≡ 0
+    past-zero z1 z2 z3 {h} q k from to =
+        let pos = positive prime in
+        let (plain, r) = plain-exists (blinded-holds pos xs a b c d1 d2 d3 (q .divides)) in
+        let same : h ≋⟨ p ⟩ plain = ≋-trans (blinded-formula pos xs a b c d1 d2 d3 r q) (unblinded xs a b plain z1 z2 z3) in
+        let none : getD plain k 0 ≡ 0 = List·getD-eq-default plain 0 (omega (arith, r .size)) in
+        ≈-words (rw none at (same .coefficient k)) (q .words .below k to) pos

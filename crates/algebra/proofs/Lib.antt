@@ -18,3 +18,4 @@ pub mod ConsecutiveBasis
 pub mod Without
 pub mod Every
 pub mod Tests
+pub mod Blinders

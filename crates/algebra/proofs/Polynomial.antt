@@ -1,7 +1,7 @@
 -- The laws of polynomials as lists, exact in ℕ: lengths, coefficients and values of sum, multiple and product.
 use mathlib.Core.Path.{_≡_, refl, sym, _∙_, ap}
 use mathlib.Core.List.{List, [], _∷_}
-use Prim.Native.Nat.{ℕ, zero, suc, _+_, _*_, _%_, _<_, max}
+use Prim.Native.Nat.{ℕ, zero, suc, _+_, _*_, _%_, _≤_, _<_, max}
 use native.Mathlib.Nat.{zero-mod, suc-max-suc, zero-max, max-zero}
 use native.Mathlib.Omega.{arith}
 use lib.ListN.{length, getD}
@@ -32,6 +32,13 @@ unfolding product
 length-product (a ∷ []) g hf hg = omega (arith, length-step a [] g)
 length-product (a ∷ b ∷ f) g hf hg = omega (arith, length-step a (b ∷ f) g, length-product (b ∷ f) g (omega arith) hg)
 length-product [] g hf hg = absurd (omega arith)
+
+-- and at most as many where one of them is empty
+pub length-product-most : (f g : List ℕ) → length (product f g) ≤ length f + length g
+unfolding product
+length-product-most [] g = omega arith
+length-product-most (a ∷ []) g = omega (arith, length-step a [] g)
+length-product-most (a ∷ b ∷ f) g = omega (arith, length-step a (b ∷ f) g, length-product-most (b ∷ f) g)
 
 pub length-reduced : (p : ℕ) (f : List ℕ) → length (reduced p f) ≡ length f
 unfolding reduced

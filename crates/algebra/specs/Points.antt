@@ -12,6 +12,10 @@ unfoldable pub consecutive : ℕ → ℕ → List ℕ
 consecutive x zero = []
 consecutive x (suc m) = x ∷ consecutive (suc x) m
 
+-- the points of m rows: 1, 2, .., m
+abbrev pub rowPoints : ℕ → List ℕ
+rowPoints m = consecutive 1 m
+
 -- no two points are the same modulo p
 pub record Distinct (p : ℕ) (xs : List ℕ) : Type 0 where
   pub apart : (i j : ℕ) → i < j → j < length xs → getD xs i 0 ≈⟨ p ⟩ getD xs j 0 → ⊥
