@@ -19,3 +19,4 @@ pub mod Without
 pub mod Every
 pub mod Tests
 pub mod Blinders
+pub mod Among

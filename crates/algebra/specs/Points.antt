@@ -1,8 +1,10 @@
 -- Points, the target through them, the list that takes given values at them, and the quotient by the target.
 -- RULES 4: target Z(X) is the product of (X − i); a column has as many words as there are points and takes its value at each.
+use mathlib.Core.Bool.{Bool, false, _||_}
 use mathlib.Core.Path.{_≡_}
 use mathlib.Core.List.{List, [], _∷_}
 use Prim.Native.Nat.{ℕ, zero, suc, _-_, _<_}
+use lib.Dec.{eqb}
 use lib.ListN.{length, getD}
 use Rattle.algebra.specs.Congruence.{_≈⟨_⟩_, negative}
 use Rattle.algebra.specs.Polynomial.{Each, Words, value, product, reduced, _≋⟨_⟩_}
@@ -15,6 +17,11 @@ consecutive x (suc m) = x ∷ consecutive (suc x) m
 -- the points of m rows: 1, 2, .., m
 abbrev pub rowPoints : ℕ → List ℕ
 rowPoints m = consecutive 1 m
+
+-- s is one of the points
+unfoldable pub among : ℕ → List ℕ → Bool
+among s [] = false
+among s (x ∷ xs) = eqb s x || among s xs
 
 -- no two points are the same modulo p
 pub record Distinct (p : ℕ) (xs : List ℕ) : Type 0 where

@@ -11,6 +11,7 @@ use borrow.Author.Tests.{le-leb, lt-leb, leb-true, leb-false}
 use lib.Dec.{leb}
 use lib.ListN.{length, take}
 use lib.Seq.{length-take-le, getD-take}
+use Rattle.algebra.specs.Prime.{FieldPrime}
 use Rattle.outcome.specs.Verdict.{Accepted}
 use Rattle.outcome.proofs.Verdict.{accepted-new}
 use Rattle.circuit.specs.Circuit.{word, publics, columns}
@@ -44,7 +45,7 @@ assigned-order c i j h = ⊎-elim
     (public-or-private c i))
     (public-or-private c j)
 
-module _ {c a : List ℕ} (formed : AssignmentFormed c a) where
+module _ {p : ℕ} {c a : List ℕ} (formed : AssignmentFormed p c a) where
   pub assigned-inside : (j : ℕ) → j ≤ columns c → assignedAt c j < length a
   assigned-inside j h = ⊎-elim
       (λ (low : j ≤ publics c). rw (public-at c j low) (omega arith))
@@ -52,7 +53,7 @@ module _ {c a : List ℕ} (formed : AssignmentFormed c a) where
       (public-or-private c j)
 
 -- the public part of an assignment is a public section with the same values
-module _ {c a : List ℕ} (circuit : Formed c) (formed : AssignmentFormed c a) where
+module _ {p : ℕ} {c a : List ℕ} (circuit : Formed p c) (formed : AssignmentFormed p c a) where
   private-less : publics c + 1 ≤ length a
   private-less = omega arith
 
@@ -62,7 +63,7 @@ module _ {c a : List ℕ} (circuit : Formed c) (formed : AssignmentFormed c a) w
   public-size : length (take (publics c + 1) a) ≡ publics c + 1
   public-size = length-take-le (publics c + 1) a private-less
 
-  pub public-part : PublicFormed c (take (publics c + 1) a)
+  pub public-part : PublicFormed p c (take (publics c + 1) a)
   public-part = record {
     size = public-size;
     public-count = public-word 0 (omega arith) ∙ formed .public-count;
@@ -78,8 +79,8 @@ module _ {c a : List ℕ} (circuit : Formed c) (formed : AssignmentFormed c a) w
   public-assigned j l = rw (public-at c j l) (public-word j l)
 
 -- what is handed out is what the check of a public section takes
-pub section-accepted : (c a : List ℕ) → Accepted (circuitThenAssignment c a) → Accepted (publicVerdict c (publicSection c a))
+pub section-accepted : {p : ℕ} (field : FieldPrime p) (c a : List ℕ) → Accepted (circuitThenAssignment p c a) → Accepted (publicVerdict p c (publicSection p c a))
 unfolding publicSection
-section-accepted c a h =
-    let (circuit, formed) = both-formed c a h in
-    rw (accepted-new (take (publics c + 1) a) _ h) (public-accepted (public-part (circuit .formed) formed))
+section-accepted field c a h =
+    let (circuit, formed) = both-formed field c a h in
+    rw (accepted-new (take (publics c + 1) a) _ h) (public-accepted field (public-part (circuit .formed) formed))

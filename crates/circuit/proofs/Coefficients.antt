@@ -11,14 +11,15 @@ use borrow.Author.Tests.{eq-eqb}
 use lib.Dec.{eqb}
 use Rattle.outcome.specs.Verdict.{within}
 use Rattle.outcome.proofs.Verdict.{apart, within-true}
-use Rattle.circuit.specs.Circuit.{rows, columns, entries, rowOf, columnOf, valueOf, section, isAt, listed, coef}
+use Rattle.circuit.specs.Circuit.{listedRows, rows, columns, entries, rowOf, columnOf, valueOf, section, isAt, listed, coef}
 use Rattle.circuit.specs.WellFormed.{SectionFormed, Formed}
 use Rattle.algebra.specs.Combination.{total}
 use Rattle.circuit.specs.Totals.{only}
 use Rattle.circuit.proofs.Totals.{total-same, total-swap, total-pick}
+use Rattle.circuit.proofs.Rows.{row-inside}
 use Rattle.circuit.proofs.Entries.{at-place, one-only, row-entries}
 
-module _ {c : List ℕ} {s : ℕ} (formed : SectionFormed c s) where
+module _ {p : ℕ} {c : List ℕ} {s : ℕ} (formed : SectionFormed p c s) where
   listed-none : (i j k : ℕ) → ((e : ℕ) → e < k → rowOf c s e ≡ i → columnOf c s e ≡ j → ⊥) → listed c s i j k ≡ 0
   unfolding listed
   listed-none i j zero h = refl
@@ -55,13 +56,13 @@ module _ {c : List ℕ} {s : ℕ} (formed : SectionFormed c s) where
       ∙ total-same _ _ (entries c s) (λ e l.
       let entry = formed .entry e l in
       simp zero-add at (total-pick (λ i. only (within 1 (columnOf c s e) (columns c)) (g i (columnOf c s e) * valueOf c s e)) (rowOf c s e) 0 (rows c))
-      ∙ rw (within-true (entry .row), within-true (entry .column))))
+      ∙ rw (within-true (row-inside entry), within-true (entry .column))))
 
 is-at : (c : List ℕ) (s e : ℕ) → isAt c s (rowOf c s e) (columnOf c s e) e ≡ true
 is-at c s e = rw (eq-eqb (rowOf c s e) (rowOf c s e) refl, eq-eqb (columnOf c s e) (columnOf c s e) refl)
 
 -- the same for the matrix of a circuit
-module _ {c : List ℕ} (formed : Formed c) (matrix : ℕ) (l : matrix < 3) where
+module _ {p : ℕ} {c : List ℕ} (formed : Formed p c) (matrix : ℕ) (l : matrix < 3) where
   pub coef-listed : (e : ℕ) → e < entries c (section c matrix) →
       coef c matrix (rowOf c (section c matrix) e) (columnOf c (section c matrix) e) ≡ valueOf c (section c matrix) e
   unfolding coef
@@ -74,6 +75,10 @@ module _ {c : List ℕ} (formed : Formed c) (matrix : ℕ) (l : matrix < 3) wher
       coef c matrix i j ≡ 0
   unfolding coef
   coef-none i j h = listed-none (formed .matrices matrix l) i j (entries c (section c matrix)) h
+
+  -- rows that are not listed have no coefficient
+  pub coef-unlisted : (i j : ℕ) → listedRows c < i → coef c matrix i j ≡ 0
+  coef-unlisted i j above = coef-none i j (λ e h row column. omega (arith, formed .matrices matrix l .entry e h .row .at-most))
 
   pub coef-sum : (g : ℕ → ℕ → ℕ) →
       total (λ e. g (rowOf c (section c matrix) e) (columnOf c (section c matrix) e) * valueOf c (section c matrix) e) (entries c (section c matrix))

@@ -36,7 +36,7 @@ above-means r k r0 k0 h = go (ltb r0 r) refl (eqb r0 r) refl (ltb k0 k) refl h
 pub at-place : (c : List ℕ) (s i j e : ℕ) → isAt c s i j e ≡ true → (rowOf c s e ≡ i) × (columnOf c s e ≡ j)
 at-place c s i j e h = let parts = both-true (eqb (rowOf c s e) i) h in (eqb-true _ _ (parts .0), eqb-true _ _ (parts .1))
 
-module _ {c : List ℕ} (few : columns c ≤ 256) {s : ℕ} (formed : SectionFormed c s) where
+module _ {p : ℕ} {c : List ℕ} (few : columns c ≤ 256) {s : ℕ} (formed : SectionFormed p c s) where
   step : (e : ℕ) → suc e < entries c s → rank c s e < rank c s (suc e)
   step e l =
       let here = formed .entry (suc e) l in

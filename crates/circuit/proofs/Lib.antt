@@ -6,3 +6,4 @@ pub mod Tables
 pub mod Entries
 pub mod Coefficients
 pub mod Prefix
+pub mod Rows

@@ -32,8 +32,8 @@ module _ (c : List ℕ) where
   inside : (k e : ℕ) → k < 3 → e < entries c (section c k) → entryAt (section c k) e + 3 ≤ ending c
   inside k e l h = omega (arith, ends-before c k 3 l)
 
-  module _ (formed : Formed c) where
-    leading-entry : (k e : ℕ) → k < 3 → e < entries c (section c k) → EntryFormed (leading c) (section c k) e
+  module _ {p : ℕ} (formed : Formed p c) where
+    leading-entry : (k e : ℕ) → k < 3 → e < entries c (section c k) → EntryFormed p (leading c) (section c k) e
     leading-entry k e l h = record {
       row = rw (leading-count 0 (omega arith), row-of e (omega arith)) (entry .row);
       column = rw (leading-count 2 (omega arith), column-of e (omega arith)) (entry .column);
@@ -46,7 +46,7 @@ module _ (c : List ℕ) where
         s : ℕ
         s = section c k
 
-        entry : EntryFormed c (section c k) e
+        entry : EntryFormed p c (section c k) e
         entry = formed .matrices k l .entry e h
 
         row-of : (d : ℕ) → d ≤ e → rowOf (leading c) (section c k) d ≡ rowOf c (section c k) d
@@ -58,7 +58,7 @@ module _ (c : List ℕ) where
     leading-length : length (leading c) ≡ ending c
     leading-length = length-take-le (ending c) c (ends-within formed)
 
-    leading-matrix : (k : ℕ) → k < 3 → SectionFormed (leading c) (section (leading c) k)
+    leading-matrix : (k : ℕ) → k < 3 → SectionFormed p (leading c) (section (leading c) k)
     leading-matrix k l =
         let whole = formed .matrices k l in
         let end = ends-before c k 3 l in
@@ -70,7 +70,7 @@ module _ (c : List ℕ) where
           entry = λ e h. leading-entry k e l (rw count at h);
         })
 
-    pub leading-formed : WellFormed (leading c)
+    pub leading-formed : WellFormed p (leading c)
     leading-formed =
         record {
           formed = record {
@@ -84,5 +84,5 @@ module _ (c : List ℕ) where
         }
 
 -- what a caller has whose words go on after the circuit
-pub leading-accepted : (c : List ℕ) → Accepted (prefixVerdict c) → Accepted (circuitVerdict (leading c))
-leading-accepted c h = circuit-accepted (leading-formed c (prefix-formed c h))
+pub leading-accepted : (p : ℕ) (c : List ℕ) → Accepted (prefixVerdict p c) → Accepted (circuitVerdict p (leading c))
+leading-accepted p c h = circuit-accepted (leading-formed c (prefix-formed c h))

@@ -9,21 +9,22 @@ use Rattle.circuit.specs.Reader.{rangesVerdict, entryVerdict, sectionVer
 
 ruleset proper = (proper-require, proper-andThen, lit<, tt)
 
-pub proper-entry : (c : List ℕ) (s e : ℕ) → Proper (entryVerdict c s e)
-unfolding entryVerdict rangesVerdict
-proper-entry c s e = search proper depth 16
+module _ (p : ℕ) where
+  pub proper-entry : (c : List ℕ) (s e : ℕ) → Proper (entryVerdict p c s e)
+  unfolding entryVerdict rangesVerdict
+  proper-entry c s e = search proper depth 16
 
-pub proper-section : (c : List ℕ) (s : ℕ) → Proper (sectionVerdict c s)
-unfolding sectionVerdict
-proper-section c s =
-    let each = proper-first (entryVerdict c s) (entries c s) (λ e l. proper-entry c s e) in search proper depth 16
+  pub proper-section : (c : List ℕ) (s : ℕ) → Proper (sectionVerdict p c s)
+  unfolding sectionVerdict
+  proper-section c s =
+      let each = proper-first (entryVerdict p c s) (entries c s) (λ e l. proper-entry c s e) in search proper depth 16
 
-pub proper-prefix : (c : List ℕ) → Proper (prefixVerdict c)
-unfolding prefixVerdict countsVerdict
-proper-prefix c =
-    let each = proper-first (λ matrix. sectionVerdict c (section c matrix)) 3 (λ k l. proper-section c (section c k)) in
-    search proper depth 16
+  pub proper-prefix : (c : List ℕ) → Proper (prefixVerdict p c)
+  unfolding prefixVerdict countsVerdict
+  proper-prefix c =
+      let each = proper-first (λ matrix. sectionVerdict p c (section c matrix)) 3 (λ k l. proper-section c (section c k)) in
+      search proper depth 16
 
-pub proper-circuit : (c : List ℕ) → Proper (circuitVerdict c)
-unfolding circuitVerdict
-proper-circuit c = let first = proper-prefix c in search proper depth 16
+  pub proper-circuit : (c : List ℕ) → Proper (circuitVerdict p c)
+  unfolding circuitVerdict
+  proper-circuit c = let first = proper-prefix c in search proper depth 16

@@ -32,6 +32,6 @@ unfolding section
 begins-after c zero = omega arith
 begins-after c (suc k) = omega (arith, begins-after c k)
 
-pub ends-within : {c : List ℕ} → Formed c → ending c ≤ length c
+pub ends-within : {p : ℕ} {c : List ℕ} → Formed p c → ending c ≤ length c
 unfolding section
 ends-within formed = formed .matrices 2 (omega arith) .room

@@ -5,7 +5,6 @@ use mathlib.Core.List.{List}
 use Prim.Native.Nat.{ℕ, zero, suc, _+_, _*_}
 use lib.Dec.{eqb}
 use lib.ListN.{getD, take}
-use Rattle.algebra.specs.Points.{consecutive}
 
 -- the word at an index, counted from 0
 abbrev pub word : List ℕ → ℕ → ℕ
@@ -13,8 +12,9 @@ word c i = getD c i 0
 
 -- the counts m, q, n, in the order in which they stand
 
-abbrev pub rows : List ℕ → ℕ
-rows c = word c 0
+-- rows that are listed: entries name them, and so does number 10
+abbrev pub listedRows : List ℕ → ℕ
+listedRows c = word c 0
 
 abbrev pub publics : List ℕ → ℕ
 publics c = word c 1
@@ -22,9 +22,9 @@ publics c = word c 1
 abbrev pub columns : List ℕ → ℕ
 columns c = word c 2
 
--- a row's point is its number: 1, 2, .., m
-abbrev pub points : List ℕ → List ℕ
-points c = consecutive 1 (rows c)
+-- rows that have points: row sums, points and lengths go by them
+unfoldable pub rows : List ℕ → ℕ
+rows c = listedRows c
 
 -- A section is named by the index of its count of entries.
 abbrev pub entries : List ℕ → ℕ → ℕ

@@ -6,32 +6,31 @@ use mathlib.Core.Path.{_≡_}
 use Prim.Native.Nat.{ℕ, _-_, _≤_, _<_}
 use lib.ListN.{length}
 use Rattle.outcome.specs.Verdict.{Within}
-use Rattle.field.specs.Field.{p}
-use Rattle.circuit.specs.Circuit.{rows, publics, columns, entries, rowOf, columnOf, valueOf, section, sectionEnd, ending}
+use Rattle.circuit.specs.Circuit.{listedRows, publics, columns, entries, rowOf, columnOf, valueOf, section, sectionEnd, ending}
 use Rattle.circuit.specs.Reader.{ascends}
 
 -- entry e of a section
-pub record EntryFormed (c : List ℕ) (s e : ℕ) : Type 0 where
-  pub row : Within 1 (rowOf c s e) (rows c)
+pub record EntryFormed (p : ℕ) (c : List ℕ) (s e : ℕ) : Type 0 where
+  pub row : Within 1 (rowOf c s e) (listedRows c)
   pub column : Within 1 (columnOf c s e) (columns c)
   pub value : Within 1 (valueOf c s e) (p - 1)
   pub ascending : ascends c s e ≡ true
 
-pub record SectionFormed (c : List ℕ) (s : ℕ) : Type 0 where
+pub record SectionFormed (p : ℕ) (c : List ℕ) (s : ℕ) : Type 0 where
   pub counted : s < length c
   pub few : entries c s ≤ 1024
   pub room : sectionEnd c s ≤ length c
-  pub entry : (e : ℕ) → e < entries c s → EntryFormed c s e
+  pub entry : (e : ℕ) → e < entries c s → EntryFormed p c s e
 
 -- words that begin with a circuit
-pub record Formed (c : List ℕ) : Type 0 where
+pub record Formed (p : ℕ) (c : List ℕ) : Type 0 where
   pub counts : 3 ≤ length c
-  pub row-count : Within 1 (rows c) 256
+  pub row-count : Within 1 (listedRows c) 256
   pub column-count : Within 1 (columns c) 256
   pub public-count : Within 1 (publics c) (columns c)
-  pub matrices : (matrix : ℕ) → matrix < 3 → SectionFormed c (section c matrix)
+  pub matrices : (matrix : ℕ) → matrix < 3 → SectionFormed p c (section c matrix)
 
 -- words that are a circuit
-pub record WellFormed (c : List ℕ) : Type 0 where
-  pub formed : Formed c
+pub record WellFormed (p : ℕ) (c : List ℕ) : Type 0 where
+  pub formed : Formed p c
   pub whole : ending c ≡ length c

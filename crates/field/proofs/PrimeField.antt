@@ -6,7 +6,7 @@ use mathlib.Core.Logic.{⊎-elim}
 use Prim.Native.Nat.{ℕ, _<_}
 use native.Mathlib.Omega.{arith}
 use lib.Seq.{ext-getD}
-use Rattle.algebra.specs.Prime.{Prime}
+use Rattle.algebra.specs.Prime.{Prime, FieldPrime}
 use Rattle.algebra.proofs.Congruence.{zero-or-not}
 use Rattle.algebra.proofs.PrimeTest.{isPrime, prime}
 use Rattle.algebra.proofs.Inverse.{positive, inverse-unique}
@@ -18,6 +18,10 @@ p-prime = prime p tt
 
 pub p-positive : 0 < p
 p-positive = positive p-prime
+
+-- what every law above this crate asks of p
+pub field-prime : FieldPrime p
+field-prime = record { prime = p-prime; above = omega arith; below = omega arith }
 
 pub one-answer : {a r s : ℕ} → InverseOrZero a r → InverseOrZero a s → r ≡ s
 one-answer {a} h k = ⊎-elim

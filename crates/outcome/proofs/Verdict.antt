@@ -4,7 +4,7 @@ use mathlib.Core.Bool.{Bool, true, false, _&&_}
 use mathlib.Core.List.{List}
 use mathlib.Core.Logic.{_⊎_, inl, inr, ⊎-elim}
 use mathlib.Core.Path.{_≡_, refl, sym, _∙_, ap}
-use Prim.Native.Nat.{ℕ, zero, suc, _<_}
+use Prim.Native.Nat.{ℕ, zero, suc, _<_, _≤_}
 use native.Mathlib.Nat.{eq-zero-or-pos, eq-or-lt-of-le}
 use native.Mathlib.Omega.{arith}
 use borrow.Author.Tests.{le-leb, leb-true}
@@ -153,10 +153,28 @@ pub proper-andThen : {a b : Outcome} → Proper a → Proper b → Proper (a and
 proper-andThen {a} {b} ha hb =
     record { fine-if-accepted = λ h. let parts = accepted-parts h in goes-on b (parts .0) ∙ hb .fine-if-accepted (parts .1) }
 
+pub then-fine : {a : Outcome} → Proper a → a andThen fine ≡ a
+then-fine {a} proper = ⊎-elim
+    (λ (h : Accepted a). goes-on fine h ∙ sym (proper .fine-if-accepted h))
+    (λ (r : Refused a). stops fine r)
+    (accepted-or-refused a)
+
 pub proper-first : (f : ℕ → Outcome) (k : ℕ) → ((i : ℕ) → i < k → Proper (f i)) → Proper (firstFault f k)
 unfolding firstFault
 proper-first f zero h = record { fine-if-accepted = λ a. refl }
 proper-first f (suc k) h = proper-andThen (proper-first f k (λ i l. h i (omega arith))) (h k (omega arith))
+
+-- places that pass add nothing
+pub first-longer : (f : ℕ → Outcome) (k n : ℕ) → k ≤ n → ((i : ℕ) → i < k → Proper (f i)) → ((i : ℕ) → k ≤ i → i < n → f i ≡ fine) →
+    firstFault f n ≡ firstFault f k
+unfolding firstFault
+first-longer f k zero l proper h = let none : 0 ≡ k = omega arith in ap (firstFault f) none
+first-longer f k (suc n) l proper h = ⊎-elim
+    (λ (e : k ≡ suc n). ap (firstFault f) (sym e))
+    (λ (below : k < suc n).
+    let rest = first-longer f k n (omega arith) proper (λ i from to. h i from (omega arith)) in
+    rw (rest, h n (omega arith) (omega arith)) (then-fine (proper-first f k proper)))
+    (eq-or-lt-of-le l)
 
 -- a lent list
 

@@ -12,23 +12,25 @@ use Rattle.outcome.specs.declared.Outcome.{Outcome}
 use Rattle.outcome.specs.Verdict.{Accepted, Within}
 use Rattle.outcome.proofs.Verdict.{accepted-parts, taken, true-within}
 use Rattle.algebra.proofs.Interpolation.{interpolation-unique}
-use Rattle.field.proofs.PrimeField.{p-prime}
-use Rattle.circuit.specs.Circuit.{rows, columns}
+use Rattle.circuit.specs.Circuit.{columns}
 use Rattle.circuit.specs.Reader.{circuitVerdict}
+use Rattle.circuit.proofs.Formed.{circuit-formed}
+use Rattle.circuit.specs.WellFormed.{Formed}
+use Rattle.qap.specs.Setting.{Setting, Sound, pointsOf}
 use Rattle.qap.specs.Refusals.{columnVerdict, columnsVerdict}
 use Rattle.qap.specs.Calls.{AllColumns, ColumnCall, ColumnsCall}
-use Rattle.qap.proofs.Settings.{exact-length, distinct-points}
+use Rattle.qap.proofs.Settings.{exact-length, prime, distinct-points}
 use Rattle.qap.proofs.Determined.{filled-once}
 
-pub record ColumnAsked (c : List ℕ) (matrix j size : ℕ) : Type 0 where
-  pub circuit : Accepted (circuitVerdict c)
+pub record ColumnAsked (S : Setting) (c : List ℕ) (matrix j size : ℕ) : Type 0 where
+  pub circuit : Accepted (circuitVerdict (S .p) c)
   pub of-three : matrix ≤ 2
   pub among : Within 1 j (columns c)
-  pub exact : size ≡ rows c
+  pub exact : size ≡ length (pointsOf S c)
 
-pub column-asked : (c : List ℕ) (matrix j size : ℕ) → Accepted (columnVerdict c matrix j size) → ColumnAsked c matrix j size
+pub column-asked : (S : Setting) (c : List ℕ) (matrix j size : ℕ) → Accepted (columnVerdict S c matrix j size) → ColumnAsked S c matrix j size
 unfolding columnVerdict
-column-asked c matrix j size h =
+column-asked S c matrix j size h =
     let parts = accepted-parts h in
     let matrices = taken _ _ _ (lit< tt) (parts .1) in
     let number = taken _ _ _ (lit< tt) (matrices .1) in
@@ -36,29 +38,24 @@ column-asked c matrix j size h =
       circuit = parts .0;
       of-three = leb-true matrix 2 (matrices .0);
       among = true-within 1 j (columns c) (number .0);
-      exact = exact-length size (rows c) (number .1);
+      exact = exact-length size (length (pointsOf S c)) (number .1);
     }
 
-pub record ColumnsAsked (c : List ℕ) (matrix size : ℕ) : Type 0 where
-  pub circuit : Accepted (circuitVerdict c)
+pub record ColumnsAsked (S : Setting) (c : List ℕ) (matrix size : ℕ) : Type 0 where
+  pub circuit : Accepted (circuitVerdict (S .p) c)
   pub of-three : matrix ≤ 2
-  pub exact : size ≡ columns c * rows c
+  pub exact : size ≡ columns c * length (pointsOf S c)
 
-pub columns-asked : (c : List ℕ) (matrix size : ℕ) → Accepted (columnsVerdict c matrix size) → ColumnsAsked c matrix size
+pub columns-asked : (S : Setting) (c : List ℕ) (matrix size : ℕ) → Accepted (columnsVerdict S c matrix size) → ColumnsAsked S c matrix size
 unfolding columnsVerdict
-columns-asked c matrix size h =
+columns-asked S c matrix size h =
     let parts = accepted-parts h in
     let matrices = taken _ _ _ (lit< tt) (parts .1) in
     record {
       circuit = parts .0;
       of-three = leb-true matrix 2 (matrices .0);
-      exact = exact-length size (columns c * rows c) (matrices .1);
+      exact = exact-length size (columns c * length (pointsOf S c)) (matrices .1);
     }
-
-pub column-determined : (c : List ℕ) (matrix j : ℕ) {old new new' : List ℕ} {o o' : Outcome} →
-    ColumnCall c matrix j old new o → ColumnCall c matrix j old new' o' → (o ≡ o') × (new ≡ new')
-column-determined c matrix j {old} = filled-once
-    (λ h f g. interpolation-unique p-prime (distinct-points c (column-asked c matrix j (length old) h .circuit)))
 
 -- lists of n places of m words each are equal where they are at each place
 places-equal : (m n : ℕ) (f g : List ℕ) → length f ≡ n * m → length g ≡ n * m →
@@ -77,14 +74,20 @@ places-equal m (suc n) f g ef eg h =
     after : (t : ℕ) → m + t * m ≡ suc t * m
     after t = omega arith
 
-columns-unique : (c : List ℕ) (matrix : ℕ) → Accepted (circuitVerdict c) → {f g : List ℕ} → AllColumns c matrix f → AllColumns c matrix g → f ≡ g
-columns-unique c matrix accepted {f} {g} s t = places-equal (rows c) (columns c) f g (s .size) (t .size)
-    (λ k l.
-    let place : suc k - 1 ≡ k = omega arith in
-    let own = interpolation-unique p-prime (distinct-points c accepted)
-    (s .column (suc k) (omega arith) (omega arith)) (t .column (suc k) (omega arith) (omega arith)) in
-    rw place at own)
+module _ {S : Setting} (sound : Sound S) (c : List ℕ) (matrix : ℕ) where
+  pub column-determined : (j : ℕ) {old new new' : List ℕ} {o o' : Outcome} →
+      ColumnCall S c matrix j old new o → ColumnCall S c matrix j old new' o' → (o ≡ o') × (new ≡ new')
+  column-determined j {old} = filled-once
+      (λ h f g. interpolation-unique (prime sound) (distinct-points sound (circuit-formed c (column-asked S c matrix j (length old) h .circuit) .formed)))
 
-pub columns-determined : (c : List ℕ) (matrix : ℕ) {old new new' : List ℕ} {o o' : Outcome} →
-    ColumnsCall c matrix old new o → ColumnsCall c matrix old new' o' → (o ≡ o') × (new ≡ new')
-columns-determined c matrix {old} = filled-once (λ h f g. columns-unique c matrix (columns-asked c matrix (length old) h .circuit))
+  columns-unique : Formed (S .p) c → {f g : List ℕ} → AllColumns S c matrix f → AllColumns S c matrix g → f ≡ g
+  columns-unique formed {f} {g} s t = places-equal (length (pointsOf S c)) (columns c) f g (s .size) (t .size)
+      (λ k l.
+      let place : suc k - 1 ≡ k = omega arith in
+      let own = interpolation-unique (prime sound) (distinct-points sound formed)
+      (s .column (suc k) (omega arith) (omega arith)) (t .column (suc k) (omega arith) (omega arith)) in
+      rw place at own)
+
+  pub columns-determined : {old new new' : List ℕ} {o o' : Outcome} →
+      ColumnsCall S c matrix old new o → ColumnsCall S c matrix old new' o' → (o ≡ o') × (new ≡ new')
+  columns-determined {old} = filled-once (λ h f g. columns-unique (circuit-formed c (columns-asked S c matrix (length old) h .circuit) .formed))

@@ -9,10 +9,9 @@ use Rattle.outcome.specs.declared.Outcome.{Outcome}
 use Rattle.outcome.specs.Verdict.{Accepted}
 use Rattle.outcome.proofs.Verdict.{accepted-or-refused}
 use Rattle.algebra.specs.Polynomial.{value}
-use Rattle.algebra.specs.Points.{Distinct}
-use Rattle.field.specs.Field.{p}
-use Rattle.circuit.specs.Circuit.{publics, columns, points}
-use Rattle.qap.specs.Polynomials.{PrivatePart, targetOf}
+use Rattle.circuit.specs.WellFormed.{Formed}
+use Rattle.qap.specs.Setting.{Setting, Sound}
+use Rattle.qap.specs.Polynomials.{PrivatePart, targetOf, blinderA, blinderB, blinderC}
 use Rattle.qap.specs.Answers.{IsAnswers}
 use Rattle.qap.specs.Calls.{Filled, Judged}
 use Rattle.qap.specs.declared.Blinders.{Blinders}
@@ -45,19 +44,19 @@ judged-once {verdict} {Equal} {o} {o'} s t = ⊎-elim
     λ i. record { number = number i; place = place i })
     (λ h. s .refused h ∙ sym (t .refused h)) (accepted-or-refused verdict)
 
-module _ (c a : List ℕ) (distinct : Distinct p (points c)) (d : Blinders) (s : ℕ) where
+module _ {S : Setting} (sound : Sound S) {c : List ℕ} (formed : Formed (S .p) c) (a : List ℕ) (d : Blinders) (s : ℕ) where
   -- one of the first three answers
-  once : {matrix : ℕ} {f g : List ℕ} {r r' : ℕ} (k : ℕ) → PrivatePart c a matrix f → PrivatePart c a matrix g →
-      r ≡ (value f s + k * value (targetOf c) s) % p → r' ≡ (value g s + k * value (targetOf c) s) % p → r ≡ r'
+  once : {matrix : ℕ} {f g : List ℕ} {r r' : ℕ} (k : ℕ) → PrivatePart S c a matrix f → PrivatePart S c a matrix g →
+      r ≡ (value f s + k * value (targetOf S c) s) % S .p → r' ≡ (value g s + k * value (targetOf S c) s) % S .p → r ≡ r'
   once {matrix} k rf rg e e' =
-      let same = part-unique c a matrix (publics c) (columns c) distinct rf rg in
+      let same = part-unique sound formed rf rg in
       e ∙ rw same (sym e')
 
-  pub answers-unique : {r r' : FourAnswers} → IsAnswers c a d s r → IsAnswers c a d s r' → r ≡ r'
+  pub answers-unique : {r r' : FourAnswers} → IsAnswers S c a d s r → IsAnswers S c a d s r' → r ≡ r'
   answers-unique {r} {r'} h k =
-      let one = once (d .first) (h .private-A) (k .private-A) (h .first) (k .first) in
-      let two = once (d .second) (h .private-B) (k .private-B) (h .second) (k .second) in
-      let three = once (d .third) (h .private-C) (k .private-C) (h .third) (k .third) in
-      let same = quotient-unique c a distinct d (h .quotient-H) (k .quotient-H) in
+      let one = once (value (blinderA d) s) (h .private-A) (k .private-A) (h .first) (k .first) in
+      let two = once (value (blinderB d) s) (h .private-B) (k .private-B) (h .second) (k .second) in
+      let three = once (value (blinderC d) s) (h .private-C) (k .private-C) (h .third) (k .third) in
+      let same = quotient-unique sound formed a d (h .quotient-H) (k .quotient-H) in
       let four : r .fourth ≡ r' .fourth = h .fourth ∙ (rw same (sym (k .fourth))) in
       λ i. record { first = one i; second = two i; third = three i; fourth = four i }

@@ -13,3 +13,4 @@ pub mod OneResult
 pub mod Given
 pub mod PlaceZero
 pub mod Demand3Calls
+pub mod Standard

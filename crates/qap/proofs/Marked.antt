@@ -4,30 +4,33 @@ use mathlib.Core.Path.{_≡_, refl, sym, _∙_, ap}
 use mathlib.Core.List.{List, [], _∷_}
 use Prim.Native.Nat.{ℕ, suc}
 use native.Mathlib.Omega.{arith}
-use lib.Dec.{T, leb, leb→le}
+use lib.Dec.{T}
 use lib.ListN.{length, getD}
 use Rattle.outcome.specs.declared.Outcome.{Outcome}
 use Rattle.outcome.specs.Verdict.{fine, outcome, require, _andThen_, firstFault}
 use Rattle.outcome.proofs.Verdict.{accepted-fine}
 use Rattle.algebra.specs.Polynomial.{value, sum, multiple, product, reduced}
-use Rattle.algebra.specs.Points.{Distinct, consecutive, target}
+use Rattle.algebra.specs.Points.{consecutive, target, among}
 use Rattle.algebra.specs.Combination.{total}
 use Rattle.algebra.specs.Blinding.{blinded}
-use Rattle.algebra.proofs.Consecutive.{distinct-consecutive}
 use Rattle.algebra.proofs.Interpolation.{interpolation-unique}
 use Rattle.algebra.proofs.Tests.{allWords, takesAll, samePolynomial, all-words, through-values, same-polynomial}
 use Rattle.field.specs.Field.{p}
-use Rattle.field.proofs.PrimeField.{p-prime}
-use Rattle.circuit.specs.Circuit.{rows, points, section, listed, coef}
+use Rattle.circuit.specs.Circuit.{rows, section, listed, coef}
+use Rattle.circuit.specs.WellFormed.{Formed}
+use Rattle.circuit.proofs.Formed.{circuit-formed}
 use Rattle.circuit.specs.Reader.{rangesVerdict, entryVerdict, sectionVerdict, countsVerdict, prefixVerdict, circuitVerdict}
 use Rattle.assignment.specs.Assignment.{assignedAt, wordsVerdict, valuesVerdict, assignmentVerdict}
 use Rattle.rows.specs.Rows.{rowSum, rowVerdict, rowsVerdict}
-use Rattle.qap.specs.Polynomials.{Column, Part, Whole, targetOf, IsQuotient}
+use Rattle.qap.specs.Setting.{pointsOf, standard}
+use Rattle.qap.specs.Polynomials.{Column, Part, Whole, targetOf, blinderA, blinderB, blinderC, quotientLength, IsQuotient}
 use Rattle.qap.specs.Answers.{IsAnswers}
 use Rattle.qap.specs.Refusals.{pointVerdict, lengthVerdict, targetVerdict, columnVerdict, readyVerdict, quotientVerdict, answersVerdict, checkDivisionVerdict}
 use Rattle.qap.specs.Calls.{Filled}
 use Rattle.qap.specs.Marked.{K, K1, readings, blinders, answers, Writes, Refuses, Marked}
 use Rattle.qap.specs.declared.Blinders.{Blinders}
+use Rattle.qap.proofs.Settings.{distinct-points}
+use Rattle.qap.proofs.Standard.{sound}
 use Rattle.qap.proofs.Parts.{through-part}
 use Rattle.qap.proofs.Quotients.{quotient-unique, candidate-quotient}
 use Rattle.qap.proofs.Determined.{answers-unique}
@@ -45,25 +48,30 @@ refuses {Right} verdict size number place v old new o s h =
     let e : verdict (length old) ≡ outcome (suc number) place = rw s v in
     (h .number-and-place ∙ e, h .kept (rw e (record { is-positive = omega arith })))
 
-distinct : (c : List ℕ) → T (leb (rows c) p) → Distinct p (points c)
-distinct c t = distinct-consecutive 1 (rows c) (leb→le (rows c) p t)
+formed-K : Formed p K
+unfolding K section firstFault require _andThen_ rangesVerdict entryVerdict sectionVerdict countsVerdict prefixVerdict circuitVerdict
+formed-K = let accepted : circuitVerdict p K ≡ fine = refl in circuit-formed {p = p} K (rw accepted accepted-fine) .formed
+
+formed-K1 : Formed p K1
+unfolding K1 section firstFault require _andThen_ rangesVerdict entryVerdict sectionVerdict countsVerdict prefixVerdict circuitVerdict
+formed-K1 = let accepted : circuitVerdict p K1 ≡ fine = refl in circuit-formed {p = p} K1 (rw accepted accepted-fine) .formed
 
 -- a part of a matrix, by its values
-part : (c a : List ℕ) → T (leb (rows c) p) → (matrix from to : ℕ) (f : List ℕ) → length f ≡ length (points c) → T (allWords p f) →
-    T (takesAll p (points c) (λ i. rowSum c a matrix (suc i) from to) f) → Part c a matrix from to f
-part c a t matrix from to f size words takes =
-    through-part c a matrix from to (distinct c t)
-    (through-values p (points c) (λ i. rowSum c a matrix (suc i) from to) f size words takes)
+part : {c : List ℕ} → Formed p c → (a : List ℕ) (matrix from to : ℕ) (f : List ℕ) → length f ≡ length (pointsOf standard c) → T (allWords p f) →
+    T (takesAll p (pointsOf standard c) (λ i. rowSum c a matrix (suc i) from to) f) → Part standard c a matrix from to f
+part {c} formed a matrix from to f size words takes =
+    through-part sound formed a matrix from to
+    (through-values p (pointsOf standard c) (λ i. rowSum c a matrix (suc i) from to) f size words takes)
 
-column : (c : List ℕ) (matrix j : ℕ) (f : List ℕ) → length f ≡ length (points c) → T (allWords p f) →
-    T (takesAll p (points c) (λ i. coef c matrix (suc i) j) f) → Column c matrix j f
-column c matrix j f = through-values p (points c) (λ i. coef c matrix (suc i) j) f
+column : (c : List ℕ) (matrix j : ℕ) (f : List ℕ) → length f ≡ length (pointsOf standard c) → T (allWords p f) →
+    T (takesAll p (pointsOf standard c) (λ i. coef c matrix (suc i) j) f) → Column standard c matrix j f
+column c matrix j f = through-values p (pointsOf standard c) (λ i. coef c matrix (suc i) j) f
 
 -- the quotient of wholes A, B, C
-quotient : (c a : List ℕ) (d : Blinders) (A B C h : List ℕ) → Whole c a 0 A → Whole c a 1 B → Whole c a 2 C → length h ≡ suc (length (points c)) →
+quotient : (c a : List ℕ) (d : Blinders) (A B C h : List ℕ) → Whole standard c a 0 A → Whole standard c a 1 B → Whole standard c a 2 C → length h ≡ quotientLength standard c →
     T (allWords p h) →
-    T (samePolynomial p (product (blinded p (points c) A (d .first)) (blinded p (points c) B (d .second)))
-    (sum (blinded p (points c) C (d .third)) (product (targetOf c) h))) → IsQuotient c a d h
+    T (samePolynomial p (product (blinded p (pointsOf standard c) A (blinderA d)) (blinded p (pointsOf standard c) B (blinderB d)))
+    (sum (blinded p (pointsOf standard c) C (blinderC d)) (product (targetOf standard c) h))) → IsQuotient standard c a d h
 quotient c a d A B C h whole-A whole-B whole-C size words equal = record {
   A = A;
   B = B;
@@ -79,41 +87,41 @@ quotient c a d A B C h whole-A whole-B whole-C size words equal = record {
 }
 
 -- K with the readings: A = 6 X − 3, B = 2 X + 1, C = 36 X − 27
-of-K : (d : Blinders) (h : List ℕ) → length h ≡ suc (length (points K)) → T (allWords p h) →
-    T (samePolynomial p (product (blinded p (points K) (2013265918 ∷ 6 ∷ []) (d .first)) (blinded p (points K) (1 ∷ 2 ∷ []) (d .second)))
-    (sum (blinded p (points K) (2013265894 ∷ 36 ∷ []) (d .third)) (product (targetOf K) h))) → IsQuotient K readings d h
-unfolding K readings section listed coef assignedAt rowSum total consecutive value
+of-K : (d : Blinders) (h : List ℕ) → length h ≡ quotientLength standard K → T (allWords p h) →
+    T (samePolynomial p (product (blinded p (pointsOf standard K) (2013265918 ∷ 6 ∷ []) (blinderA d)) (blinded p (pointsOf standard K) (1 ∷ 2 ∷ []) (blinderB d)))
+    (sum (blinded p (pointsOf standard K) (2013265894 ∷ 36 ∷ []) (blinderC d)) (product (targetOf standard K) h))) → IsQuotient standard K readings d h
+unfolding K readings rows section listed coef assignedAt rowSum total consecutive value
 of-K d h = quotient K readings d (2013265918 ∷ 6 ∷ []) (1 ∷ 2 ∷ []) (2013265894 ∷ 36 ∷ []) h
-    (part K readings tt 0 0 4 (2013265918 ∷ 6 ∷ []) refl tt tt)
-    (part K readings tt 1 0 4 (1 ∷ 2 ∷ []) refl tt tt)
-    (part K readings tt 2 0 4 (2013265894 ∷ 36 ∷ []) refl tt tt)
+    (part formed-K readings 0 0 4 (2013265918 ∷ 6 ∷ []) refl tt tt)
+    (part formed-K readings 1 0 4 (1 ∷ 2 ∷ []) refl tt tt)
+    (part formed-K readings 2 0 4 (2013265894 ∷ 36 ∷ []) refl tt tt)
 
-right-d : IsQuotient K readings (blinders 0 0 0) (12 ∷ 0 ∷ 0 ∷ [])
-unfolding K consecutive sum multiple product reduced target
+right-d : IsQuotient standard K readings (blinders 0 0 0) (12 ∷ 0 ∷ 0 ∷ [])
+unfolding K rows consecutive sum multiple product reduced target
 right-d = of-K (blinders 0 0 0) (12 ∷ 0 ∷ 0 ∷ []) refl tt tt
 
-right-e : IsQuotient K readings (blinders 1 2 3) (8 ∷ 8 ∷ 2 ∷ [])
-unfolding K consecutive sum multiple product reduced target
+right-e : IsQuotient standard K readings (blinders 1 2 3) (8 ∷ 8 ∷ 2 ∷ [])
+unfolding K rows consecutive sum multiple product reduced target
 right-e = of-K (blinders 1 2 3) (8 ∷ 8 ∷ 2 ∷ []) refl tt tt
 
-right-i : IsQuotient K1 (1 ∷ 1 ∷ 1 ∷ 1 ∷ []) (blinders 1 1 0) (0 ∷ 1 ∷ [])
-unfolding K1 section listed coef assignedAt rowSum total consecutive value sum multiple product reduced target
+right-i : IsQuotient standard K1 (1 ∷ 1 ∷ 1 ∷ 1 ∷ []) (blinders 1 1 0) (0 ∷ 1 ∷ [])
+unfolding K1 rows section listed coef assignedAt rowSum total consecutive value sum multiple product reduced target
 right-i = quotient K1 (1 ∷ 1 ∷ 1 ∷ 1 ∷ []) (blinders 1 1 0) (1 ∷ []) (0 ∷ []) (0 ∷ []) (0 ∷ 1 ∷ [])
-    (part K1 (1 ∷ 1 ∷ 1 ∷ 1 ∷ []) tt 0 0 2 (1 ∷ []) refl tt tt)
-    (part K1 (1 ∷ 1 ∷ 1 ∷ 1 ∷ []) tt 1 0 2 (0 ∷ []) refl tt tt)
-    (part K1 (1 ∷ 1 ∷ 1 ∷ 1 ∷ []) tt 2 0 2 (0 ∷ []) refl tt tt)
+    (part formed-K1 (1 ∷ 1 ∷ 1 ∷ 1 ∷ []) 0 0 2 (1 ∷ []) refl tt tt)
+    (part formed-K1 (1 ∷ 1 ∷ 1 ∷ 1 ∷ []) 1 0 2 (0 ∷ []) refl tt tt)
+    (part formed-K1 (1 ∷ 1 ∷ 1 ∷ 1 ∷ []) 2 0 2 (0 ∷ []) refl tt tt)
     refl tt tt
 
-right-f : IsAnswers K readings (blinders 1 2 3) 0 (answers 2013265920 7 24 8)
-unfolding K readings section listed coef assignedAt rowSum total consecutive value sum multiple product reduced target
+right-f : IsAnswers standard K readings (blinders 1 2 3) 0 (answers 2013265920 7 24 8)
+unfolding K readings rows section listed coef assignedAt rowSum total consecutive value sum multiple product reduced target
 right-f = record {
   A = 2013265918 ∷ 6 ∷ [];
   B = 3 ∷ 0 ∷ [];
   C = 18 ∷ 2013265912 ∷ [];
   H = 8 ∷ 8 ∷ 2 ∷ [];
-  private-A = part K readings tt 0 2 4 (2013265918 ∷ 6 ∷ []) refl tt tt;
-  private-B = part K readings tt 1 2 4 (3 ∷ 0 ∷ []) refl tt tt;
-  private-C = part K readings tt 2 2 4 (18 ∷ 2013265912 ∷ []) refl tt tt;
+  private-A = part formed-K readings 0 2 4 (2013265918 ∷ 6 ∷ []) refl tt tt;
+  private-B = part formed-K readings 1 2 4 (3 ∷ 0 ∷ []) refl tt tt;
+  private-C = part formed-K readings 2 2 4 (18 ∷ 2013265912 ∷ []) refl tt tt;
   quotient-H = right-e;
   first = refl;
   second = refl;
@@ -121,30 +129,30 @@ right-f = record {
   fourth = refl;
 }
 
-only-quotient : (c a : List ℕ) → T (leb (rows c) p) → (d : Blinders) (f g : List ℕ) → IsQuotient c a d f → IsQuotient c a d g → f ≡ g
-only-quotient c a t d f g = quotient-unique c a (distinct c t) d
+only-quotient : {c : List ℕ} → Formed p c → (a : List ℕ) (d : Blinders) (f g : List ℕ) → IsQuotient standard c a d f → IsQuotient standard c a d g → f ≡ g
+only-quotient formed a d f g = quotient-unique sound formed a d
 
-only-column : (c : List ℕ) (matrix j : ℕ) → T (leb (rows c) p) → (f g : List ℕ) → Column c matrix j f → Column c matrix j g → f ≡ g
-only-column c matrix j t f g = interpolation-unique p-prime (distinct c t)
+only-column : {c : List ℕ} → Formed p c → (matrix j : ℕ) (f g : List ℕ) → Column standard c matrix j f → Column standard c matrix j g → f ≡ g
+only-column formed matrix j f g = interpolation-unique (sound .field .prime) (distinct-points sound formed)
 
 pub marked : Marked
-unfolding K K1 readings section listed coef assignedAt rowSum total consecutive value sum multiple product reduced target
+unfolding K K1 readings rows section listed coef assignedAt rowSum total consecutive value sum multiple product reduced target
     firstFault require _andThen_ rangesVerdict entryVerdict sectionVerdict countsVerdict prefixVerdict circuitVerdict wordsVerdict valuesVerdict assignmentVerdict rowVerdict rowsVerdict
-    pointVerdict lengthVerdict targetVerdict columnVerdict readyVerdict quotientVerdict answersVerdict checkDivisionVerdict
+    among pointVerdict lengthVerdict targetVerdict columnVerdict readyVerdict quotientVerdict answersVerdict checkDivisionVerdict
 marked = record {
-  a = writes (targetVerdict 2) refl refl (λ f g s t. s ∙ sym t);
-  b = writes (columnVerdict K 0 3) refl (column K 0 3 (2 ∷ 2013265920 ∷ []) refl tt tt) (only-column K 0 3 tt);
-  c = writes (columnVerdict K 1 1) refl (column K 1 1 (2013265919 ∷ 2 ∷ []) refl tt tt) (only-column K 1 1 tt);
-  d = writes (quotientVerdict K readings (blinders 0 0 0)) refl right-d (only-quotient K readings tt (blinders 0 0 0));
-  e = writes (quotientVerdict K readings (blinders 1 2 3)) refl right-e (only-quotient K readings tt (blinders 1 2 3));
-  f = λ o r h. (h .number-and-place, answers-unique K readings (distinct K tt) (blinders 1 2 3) 0 (h .done accepted-fine) right-f);
-  g = refuses (quotientVerdict K (2 ∷ 1 ∷ 45 ∷ 2 ∷ 3 ∷ 10 ∷ []) (blinders 1 2 3)) 3 9 1 refl;
-  h = refuses (quotientVerdict K (2 ∷ 1 ∷ 46 ∷ 2 ∷ 3 ∷ 9 ∷ []) (blinders 1 2 3)) 3 9 2 refl;
-  i = writes (quotientVerdict K1 (1 ∷ 1 ∷ 1 ∷ 1 ∷ []) (blinders 1 1 0)) refl right-i (only-quotient K1 (1 ∷ 1 ∷ 1 ∷ 1 ∷ []) tt (blinders 1 1 0));
-  j = refuses (quotientVerdict K1 (1 ∷ 1 ∷ 1 ∷ 2 ∷ []) (blinders 1 1 0)) 2 9 1 refl;
+  a = writes (targetVerdict standard 2) refl refl (λ f g s t. s ∙ sym t);
+  b = writes (columnVerdict standard K 0 3) refl (column K 0 3 (2 ∷ 2013265920 ∷ []) refl tt tt) (only-column formed-K 0 3);
+  c = writes (columnVerdict standard K 1 1) refl (column K 1 1 (2013265919 ∷ 2 ∷ []) refl tt tt) (only-column formed-K 1 1);
+  d = writes (quotientVerdict standard K readings (blinders 0 0 0)) refl right-d (only-quotient formed-K readings (blinders 0 0 0));
+  e = writes (quotientVerdict standard K readings (blinders 1 2 3)) refl right-e (only-quotient formed-K readings (blinders 1 2 3));
+  f = λ o r h. (h .number-and-place, answers-unique sound formed-K readings (blinders 1 2 3) 0 (h .done accepted-fine) right-f);
+  g = refuses (quotientVerdict standard K (2 ∷ 1 ∷ 45 ∷ 2 ∷ 3 ∷ 10 ∷ []) (blinders 1 2 3)) 3 9 1 refl;
+  h = refuses (quotientVerdict standard K (2 ∷ 1 ∷ 46 ∷ 2 ∷ 3 ∷ 9 ∷ []) (blinders 1 2 3)) 3 9 2 refl;
+  i = writes (quotientVerdict standard K1 (1 ∷ 1 ∷ 1 ∷ 1 ∷ []) (blinders 1 1 0)) refl right-i (only-quotient formed-K1 (1 ∷ 1 ∷ 1 ∷ 1 ∷ []) (blinders 1 1 0));
+  j = refuses (quotientVerdict standard K1 (1 ∷ 1 ∷ 1 ∷ 2 ∷ []) (blinders 1 1 0)) 2 9 1 refl;
   k = λ o h. h .rejects accepted-fine (λ divides.
-      let right = candidate-quotient K readings (distinct K tt) (blinders 1 2 3) refl (all-words p (8 ∷ 8 ∷ 3 ∷ []) tt) divides in
-      let same = quotient-unique K readings (distinct K tt) (blinders 1 2 3) right right-e in
+      let right = candidate-quotient sound formed-K readings (blinders 1 2 3) refl (all-words p (8 ∷ 8 ∷ 3 ∷ []) tt) divides in
+      let same = quotient-unique sound formed-K readings (blinders 1 2 3) right right-e in
       let last : _≡_ {A = ℕ} 3 2 = ap (λ (f : List ℕ). getD f 2 0) same in
       omega arith);
   l = refl;

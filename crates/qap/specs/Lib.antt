@@ -1,3 +1,4 @@
+pub mod Setting
 pub mod Polynomials
 pub mod Answers
 pub mod Refusals

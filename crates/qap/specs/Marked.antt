@@ -7,6 +7,7 @@ use lib.ListN.{length}
 use Rattle.outcome.specs.declared.Outcome.{Outcome}
 use Rattle.outcome.specs.Verdict.{fine, outcome}
 use Rattle.circuit.specs.Reader.{circuitVerdict}
+use Rattle.qap.specs.Setting.{standard}
 use Rattle.qap.specs.Calls.{TargetCall, ColumnCall, QuotientCall, AnswersCall, CheckDivisionCall}
 use Rattle.qap.specs.declared.Blinders.{Blinders}
 use Rattle.qap.specs.declared.FourAnswers.{FourAnswers}
@@ -45,17 +46,17 @@ Refuses Call size number place =
     (old new : List ℕ) (o : Outcome) → length old ≡ size → Call old new o → (o ≡ outcome number place) × (new ≡ old)
 
 pub record Marked : Type 0 where
-  pub a : Writes (TargetCall 2) (2 ∷ 2013265918 ∷ 1 ∷ [])
-  pub b : Writes (ColumnCall K 0 3) (2 ∷ 2013265920 ∷ [])
-  pub c : Writes (ColumnCall K 1 1) (2013265919 ∷ 2 ∷ [])
-  pub d : Writes (QuotientCall K readings (blinders 0 0 0)) (12 ∷ 0 ∷ 0 ∷ [])
-  pub e : Writes (QuotientCall K readings (blinders 1 2 3)) (8 ∷ 8 ∷ 2 ∷ [])
-  pub f : (o : Outcome) (r : FourAnswers) → AnswersCall K readings (blinders 1 2 3) 0 o r →
+  pub a : Writes (TargetCall standard 2) (2 ∷ 2013265918 ∷ 1 ∷ [])
+  pub b : Writes (ColumnCall standard K 0 3) (2 ∷ 2013265920 ∷ [])
+  pub c : Writes (ColumnCall standard K 1 1) (2013265919 ∷ 2 ∷ [])
+  pub d : Writes (QuotientCall standard K readings (blinders 0 0 0)) (12 ∷ 0 ∷ 0 ∷ [])
+  pub e : Writes (QuotientCall standard K readings (blinders 1 2 3)) (8 ∷ 8 ∷ 2 ∷ [])
+  pub f : (o : Outcome) (r : FourAnswers) → AnswersCall standard K readings (blinders 1 2 3) 0 o r →
       (o ≡ fine) × (r ≡ answers 2013265920 7 24 8)
-  pub g : Refuses (QuotientCall K (2 ∷ 1 ∷ 45 ∷ 2 ∷ 3 ∷ 10 ∷ []) (blinders 1 2 3)) 3 10 1
-  pub h : Refuses (QuotientCall K (2 ∷ 1 ∷ 46 ∷ 2 ∷ 3 ∷ 9 ∷ []) (blinders 1 2 3)) 3 10 2
-  pub i : Writes (QuotientCall K1 (1 ∷ 1 ∷ 1 ∷ 1 ∷ []) (blinders 1 1 0)) (0 ∷ 1 ∷ [])
-  pub j : Refuses (QuotientCall K1 (1 ∷ 1 ∷ 1 ∷ 2 ∷ []) (blinders 1 1 0)) 2 10 1
-  pub k : (o : Outcome) → CheckDivisionCall K readings (blinders 1 2 3) (8 ∷ 8 ∷ 3 ∷ []) o → o ≡ outcome 13 0
-  pub l : circuitVerdict K-value ≡ outcome 4 4
-  pub m : circuitVerdict K-order ≡ outcome 5 7
+  pub g : Refuses (QuotientCall standard K (2 ∷ 1 ∷ 45 ∷ 2 ∷ 3 ∷ 10 ∷ []) (blinders 1 2 3)) 3 10 1
+  pub h : Refuses (QuotientCall standard K (2 ∷ 1 ∷ 46 ∷ 2 ∷ 3 ∷ 9 ∷ []) (blinders 1 2 3)) 3 10 2
+  pub i : Writes (QuotientCall standard K1 (1 ∷ 1 ∷ 1 ∷ 1 ∷ []) (blinders 1 1 0)) (0 ∷ 1 ∷ [])
+  pub j : Refuses (QuotientCall standard K1 (1 ∷ 1 ∷ 1 ∷ 2 ∷ []) (blinders 1 1 0)) 2 10 1
+  pub k : (o : Outcome) → CheckDivisionCall standard K readings (blinders 1 2 3) (8 ∷ 8 ∷ 3 ∷ []) o → o ≡ outcome 13 0
+  pub l : circuitVerdict (standard .p) K-value ≡ outcome 4 4
+  pub m : circuitVerdict (standard .p) K-order ≡ outcome 5 7

@@ -24,23 +24,23 @@ parts-whole c a few matrix i =
     let term : ℕ → ℕ = λ t. assigned c a (suc t) * coef c matrix i (suc t) in
     simp (zero-add, sub-zero) (sym (rw all at (total-split term (publics c) (columns c - publics c))))
 
-pub public-alone : {c a : List ℕ} → Formed c → AssignmentFormed c a → (matrix i : ℕ) →
+pub public-alone : {p : ℕ} {c a : List ℕ} → Formed p c → AssignmentFormed p c a → (matrix i : ℕ) →
     publicSum c (take (publics c + 1) a) matrix i ≡ publicSum c a matrix i
 unfolding rowSum
-public-alone {c} {a} circuit formed matrix i = total-same _ _ (publics c - 0)
+public-alone {c = c} {a = a} circuit formed matrix i = total-same _ _ (publics c - 0)
     (λ t l. ap (λ (w : ℕ). w * coef c matrix i (suc (0 + t))) (public-assigned circuit formed (suc (0 + t)) (omega arith)))
 
 -- sums over all, the private and the public columns of an assignment, and the public ones of a public section
 
-pub span-whole : {c a : List ℕ} → AssignmentFormed c a → Span c a 0 (columns c)
-span-whole {c} formed = record { ascending = omega arith; inside = omega arith; given = assigned-inside formed (columns c) (omega arith) }
+pub span-whole : {p : ℕ} {c a : List ℕ} → AssignmentFormed p c a → Span c a 0 (columns c)
+span-whole {c = c} formed = record { ascending = omega arith; inside = omega arith; given = assigned-inside formed (columns c) (omega arith) }
 
-pub span-private : {c a : List ℕ} → Formed c → AssignmentFormed c a → Span c a (publics c) (columns c)
-span-private {c} circuit formed =
+pub span-private : {p : ℕ} {c a : List ℕ} → Formed p c → AssignmentFormed p c a → Span c a (publics c) (columns c)
+span-private {c = c} circuit formed =
     record { ascending = circuit .public-count .at-most; inside = omega arith; given = assigned-inside formed (columns c) (omega arith) }
 
-pub span-public : {c a : List ℕ} → Formed c → PublicFormed c a → Span c a 0 (publics c)
-span-public {c} circuit formed = record {
+pub span-public : {p : ℕ} {c a : List ℕ} → Formed p c → PublicFormed p c a → Span c a 0 (publics c)
+span-public {c = c} circuit formed = record {
   ascending = omega arith;
   inside = circuit .public-count .at-most;
   given = rw (public-at c (publics c) (omega arith)) (omega arith);

@@ -4,7 +4,7 @@ use mathlib.Core.Bool.{Bool, true, false}
 use mathlib.Core.List.{List}
 use mathlib.Core.Path.{_≡_, refl, sym, _∙_, ap}
 use Prim.Native.Nat.{ℕ, suc, _+_, _*_, _-_, _%_, _≤_, _<_}
-use native.Mathlib.Nat.{mod-lt}
+use native.Mathlib.Nat.{mod-lt, zero-mod}
 use native.Mathlib.Numerals.{add-one}
 use native.Mathlib.Omega.{arith}
 use borrow.Author.Tests.{eq-eqb, ne-eqb}
@@ -13,8 +13,8 @@ use lib.ListN.{length, getD, set}
 use Rattle.outcome.specs.Verdict.{within, Within}
 use Rattle.algebra.specs.Polynomial.{Words}
 use Rattle.algebra.proofs.Congruence.{≈-plus, ≈-reduced, ≈-refl}
-use Rattle.field.specs.Field.{p}
-use Rattle.field.proofs.PrimeField.{p-positive}
+use Rattle.algebra.specs.Prime.{FieldPrime}
+use Rattle.algebra.proofs.Inverse.{positive}
 use Rattle.circuit.specs.Circuit.{word, rows, entries, rowOf, columnOf, valueOf, section, coef}
 use Rattle.circuit.specs.WellFormed.{Formed}
 use Rattle.algebra.specs.Combination.{total}
@@ -26,7 +26,7 @@ use Rattle.assignment.specs.Assignment.{assigned}
 use Rattle.rows.specs.Rows.{rowSum, rowSums}
 use Rattle.rows.specs.Sums.{entryPart, entrySums, withEntry}
 
-module _ (c : List ℕ) (s : ℕ) (a : List ℕ) (from to e : ℕ) where
+module _ (p : ℕ) (c : List ℕ) (s : ℕ) (a : List ℕ) (from to e : ℕ) where
   -- what the entry adds where its column counts
   product : ℕ
   product = assigned c a (columnOf c s e) * valueOf c s e
@@ -61,7 +61,7 @@ module _ (c : List ℕ) (s : ℕ) (a : List ℕ) (from to e : ℕ) where
       ∙ sym (≈-plus (≈-reduced p (total (entryPart c s a from to (suc r)) e)) (≈-refl p product) .same)
 
   pub next-entry : Within 1 (rowOf c s e) (rows c) →
-      withEntry c s a from to e (entrySums c s a from to e) ≡ entrySums c s a from to (e + 1)
+      withEntry p c s a from to e (entrySums p c s a from to e) ≡ entrySums p c s a from to (e + 1)
   unfolding withEntry entrySums sums product
   next-entry row = rw (add-one e) (go (within (suc from) (columnOf c s e) to) refl)
     where
@@ -80,34 +80,34 @@ module _ (c : List ℕ) (s : ℕ) (a : List ℕ) (from to e : ℕ) where
           (λ i l apart. same-sum i (other-row (suc i) (λ q. apart (omega arith))))
       go false h = table-same (sums e) (sums (suc e)) (rows c) (λ i l. sym (same-sum i (no-column h (suc i))))
 
-pub all-entries : {c : List ℕ} → Formed c → (a : List ℕ) (matrix from to : ℕ) → matrix < 3 → from ≤ to →
-    entrySums c (section c matrix) a from to (entries c (section c matrix)) ≡ rowSums c a matrix from to
+pub all-entries : {p : ℕ} {c : List ℕ} → Formed p c → (a : List ℕ) (matrix from to : ℕ) → matrix < 3 → from ≤ to →
+    entrySums p c (section c matrix) a from to (entries c (section c matrix)) ≡ rowSums p c a matrix from to
 unfolding entrySums rowSums rowSum coef
-all-entries {c} formed a matrix from to l up =
+all-entries {p} {c} formed a matrix from to l up =
     let whole : from + (to - from) ≡ to = omega arith in
     table-same _ _ (rows c) (λ i below. ap (λ (x : ℕ). x % p)
     (sym (rw whole at (row-entries (formed .column-count .at-most) (formed .matrices matrix l) (assigned c a) (suc i) from (to - from)))))
 
-pub length-entry-sums : (c : List ℕ) (s : ℕ) (a : List ℕ) (from to k : ℕ) → length (entrySums c s a from to k) ≡ rows c
+pub length-entry-sums : (p : ℕ) (c : List ℕ) (s : ℕ) (a : List ℕ) (from to k : ℕ) → length (entrySums p c s a from to k) ≡ rows c
 unfolding entrySums
-length-entry-sums c s a from to k = length-table _ (rows c)
+length-entry-sums p c s a from to k = length-table _ (rows c)
 
-pub no-entries : (c : List ℕ) (s : ℕ) (a : List ℕ) (from to : ℕ) → table (λ i. 0) (rows c) ≡ entrySums c s a from to 0
+pub no-entries : (p : ℕ) (c : List ℕ) (s : ℕ) (a : List ℕ) (from to : ℕ) → table (λ i. 0) (rows c) ≡ entrySums p c s a from to 0
 unfolding entrySums total
-no-entries c s a from to = refl
+no-entries p c s a from to = table-same _ _ (rows c) (λ i l. sym (zero-mod p))
 
 -- the row sums as a list
-module _ (c a : List ℕ) (matrix from to : ℕ) where
-  pub length-sums : length (rowSums c a matrix from to) ≡ rows c
+module _ (p : ℕ) (c a : List ℕ) (matrix from to : ℕ) where
+  pub length-sums : length (rowSums p c a matrix from to) ≡ rows c
   unfolding rowSums
   length-sums = length-table (λ i. rowSum c a matrix (suc i) from to % p) (rows c)
 
-  pub sum-at : (i : ℕ) → i < rows c → getD (rowSums c a matrix from to) i 0 ≡ rowSum c a matrix (suc i) from to % p
+  pub sum-at : (i : ℕ) → i < rows c → getD (rowSums p c a matrix from to) i 0 ≡ rowSum c a matrix (suc i) from to % p
   unfolding rowSums
   sum-at i l = table-at (λ i. rowSum c a matrix (suc i) from to % p) (rows c) i l
 
-  pub sums-words : Words p (rowSums c a matrix from to)
-  sums-words = record {
+  pub sums-words : FieldPrime p → Words p (rowSums p c a matrix from to)
+  sums-words field = record {
     below = λ i l.
-        rw (sum-at i (omega (arith, length-sums))) (mod-lt (rowSum c a matrix (suc i) from to) p-positive);
+        rw (sum-at i (omega (arith, length-sums))) (mod-lt (rowSum c a matrix (suc i) from to) (positive (field .prime)));
   }

@@ -1,0 +1,54 @@
+-- The standard setting is sound; and what its points are: as many as rows, and a point is one of them where it is 1 to m, which is
+-- the test that code makes. RULES 4, RULES 6.
+use mathlib.Core.Bool.{Bool, true, false}
+use mathlib.Core.List.{List}
+use mathlib.Core.Path.{_≡_, refl, sym}
+use Prim.Native.Nat.{ℕ, _+_, _-_, _≤_, _<_}
+use native.Mathlib.Nat.{le-of-eq}
+use native.Mathlib.Omega.{arith}
+use lib.ListN.{length, getD}
+use Rattle.outcome.specs.Verdict.{Within, within}
+use Rattle.outcome.proofs.Verdict.{apart, within-true, true-within}
+use Rattle.algebra.specs.Points.{rowPoints, among}
+use Rattle.algebra.proofs.Consecutive.{length-consecutive, consecutive-at, distinct-consecutive}
+use Rattle.algebra.proofs.Among.{among-at, among-some}
+use Rattle.field.proofs.PrimeField.{field-prime}
+use Rattle.circuit.specs.Circuit.{rows}
+use Rattle.qap.specs.Setting.{Sound, pointsOf, standard}
+
+pub sound : Sound standard
+sound = record {
+  field = field-prime;
+  sound-points = λ m range. record {
+    words = record {
+      below = λ i l. let inside : i < m = omega (arith, length-consecutive 1 m) in
+          rw (consecutive-at 1 m i inside) (omega (arith, range .at-most, field-prime .above));
+    };
+    distinct = distinct-consecutive 1 m (omega (arith, range .at-most, field-prime .above));
+    enough = le-of-eq (sym (length-consecutive 1 m));
+    few = omega (arith, length-consecutive 1 m, range .at-most);
+  };
+}
+
+pub count-points : (c : List ℕ) → length (pointsOf standard c) ≡ rows c
+count-points c = length-consecutive 1 (rows c)
+
+-- two tests that pass alike
+alike : (a b : Bool) → (a ≡ true → b ≡ true) → (b ≡ true → a ≡ true) → a ≡ b
+alike true b h k = sym (h refl)
+alike false true h k = k refl
+alike false false h k = refl
+
+pub among-rows : (s m : ℕ) → among s (rowPoints m) ≡ within 1 s m
+among-rows s m = alike (among s (rowPoints m)) (within 1 s m)
+    (λ h.
+    let (i, l, e) = among-some s (rowPoints m) h in
+    let inside : i < m = omega (arith, length-consecutive 1 m) in
+    let place = consecutive-at 1 m i inside in
+    let range : Within 1 s m = record { at-least = omega arith; at-most = omega arith } in
+    within-true range)
+    (λ h.
+    let range = true-within 1 s m h in
+    let inside : s - 1 < m = omega (arith, range .at-least, range .at-most) in
+    let same : getD (rowPoints m) (s - 1) 0 ≡ s = omega (arith, consecutive-at 1 m (s - 1) inside, range .at-least) in
+    rw same at (among-at (rowPoints m) (s - 1) (omega (arith, length-consecutive 1 m))))
