@@ -23,7 +23,9 @@ use Rattle.qap.specs.declared.FourAnswers.{FourAnswers}
 use Rattle.qap.proofs.Settings.{off-rows, answers-ready}
 use Rattle.qap.proofs.PlaceZero.{proper-answers}
 use Rattle.qap.proofs.Checks.{same-section}
-use Rattle.qap.proofs.Demand3.{any-three, fourth-follows, same-answers}
+use Rattle.qap.proofs.Demand3.{any-three, only-fourth, fourth-follows, same-answers}
+use Rattle.qap.proofs.Quotients.{answers-exist}
+use Rattle.qap.proofs.Determined.{answers-unique}
 
 module _ {S : Setting} (sound : Sound S) (c a : List ℕ) (s : ℕ) (given : Satisfied S c a s) where
   formed : Formed (S .p) c
@@ -53,6 +55,20 @@ module _ {S : Setting} (sound : Sound S) (c a : List ℕ) (s : ℕ) (given : Sat
         done = λ _. h .answers;
         none = λ refused. absurd (not-both accepted refused);
       }
+
+  -- every triple of field words is answered, with one answer
+  pub calls-answered : (d : Blinders) → Words (S .p) (blinderWords d) → Exactly FourAnswers (λ r. Gives S c a s r d)
+  calls-answered d words =
+      let (r, is) = answers-exist sound formed a d s (given .rows-hold) in
+      record {
+        one = r;
+        has = answered-call (record { words = words; answers = is });
+        no-other = λ x h. answers-unique sound formed a d s (call-answered h .answers) is;
+      }
+
+  -- exactly one fourth word passes the tablet's check beside any three
+  pub calls-only-fourth : (v1 v2 v3 : ℕ) → Exactly ℕ (IsFourth S c (publicSection (S .p) c a) s v1 v2 v3)
+  calls-only-fourth = only-fourth sound formed (publicSection (S .p) c a) s (off-rows sound formed s (given .point))
 
   pub calls-any-three : (v1 v2 v3 : ℕ) → v1 < S .p → v2 < S .p → v3 < S .p → Exactly Blinders (GivesThree S c a s v1 v2 v3)
   calls-any-three v1 v2 v3 w1 w2 w3 =

@@ -14,3 +14,4 @@ pub mod Given
 pub mod PlaceZero
 pub mod Demand3Calls
 pub mod Standard
+pub mod Promises

@@ -5,10 +5,10 @@ use mathlib.Core.List.{List, [], _∷_}
 use Prim.Native.Nat.{ℕ, suc}
 use native.Mathlib.Omega.{arith}
 use lib.Dec.{T}
-use lib.ListN.{length, getD}
+use lib.ListN.{length, getD, set}
 use Rattle.outcome.specs.declared.Outcome.{Outcome}
 use Rattle.outcome.specs.Verdict.{fine, outcome, require, _andThen_, firstFault}
-use Rattle.outcome.proofs.Verdict.{accepted-fine}
+use Rattle.outcome.proofs.Verdict.{accepted-fine, not-both}
 use Rattle.algebra.specs.Polynomial.{value, sum, multiple, product, reduced}
 use Rattle.algebra.specs.Points.{consecutive, target, among}
 use Rattle.algebra.specs.Combination.{total}
@@ -24,29 +24,36 @@ use Rattle.assignment.specs.Assignment.{assignedAt, wordsVerdict, valuesVerdict
 use Rattle.rows.specs.Rows.{rowSum, rowVerdict, rowsVerdict}
 use Rattle.qap.specs.Setting.{pointsOf, standard}
 use Rattle.qap.specs.Polynomials.{Column, Part, Whole, targetOf, blinderA, blinderB, blinderC, quotientLength, IsQuotient}
-use Rattle.qap.specs.Answers.{IsAnswers}
+use Rattle.qap.specs.Answers.{IsAnswers, CandidateDivides}
 use Rattle.qap.specs.Refusals.{pointVerdict, lengthVerdict, targetVerdict, columnVerdict, readyVerdict, quotientVerdict, answersVerdict, checkDivisionVerdict}
 use Rattle.qap.specs.Calls.{Filled}
-use Rattle.qap.specs.Marked.{K, K1, readings, blinders, answers, Writes, Refuses, Marked}
+use Rattle.qap.specs.Marked.{K, K1, readings, ones, blinders, answers, Writes, Refuses, Marked}
 use Rattle.qap.specs.declared.Blinders.{Blinders}
 use Rattle.qap.proofs.Settings.{distinct-points}
 use Rattle.qap.proofs.Standard.{sound}
 use Rattle.qap.proofs.Parts.{through-part}
 use Rattle.qap.proofs.Quotients.{quotient-unique, candidate-quotient}
 use Rattle.qap.proofs.Determined.{answers-unique}
+use Rattle.qap.proofs.Filling.{filled-refused, filled-done}
 
 -- a call whose verdict is 0 and whose right words are the only ones
 writes : {Right : List ℕ → Type 0} {words : List ℕ} (verdict : ℕ → Outcome) → verdict (length words) ≡ fine → Right words →
     ((f g : List ℕ) → Right f → Right g → f ≡ g) → Writes (λ old new o. Filled (verdict (length old)) Right old new o) words
-writes {Right} {words} verdict v right only old new o size h =
-    let e : verdict (length old) ≡ fine = rw size v in
-    (h .number-and-place ∙ e, only new words (h .done (rw e accepted-fine)) right)
+writes {Right} {words} verdict v right only = record {
+  admits = λ old size. filled-done Right (sym (rw size v)) old words refl (λ accepted. right);
+  no-other = λ old new o size h.
+      let e : verdict (length old) ≡ fine = rw size v in
+      (h .number-and-place ∙ e, only new words (h .done (rw e accepted-fine)) right);
+}
 
 refuses : {Right : List ℕ → Type 0} (verdict : ℕ → Outcome) (size number place : ℕ) → verdict size ≡ outcome (suc number) place →
     Refuses (λ old new o. Filled (verdict (length old)) Right old new o) size (suc number) place
-refuses {Right} verdict size number place v old new o s h =
-    let e : verdict (length old) ≡ outcome (suc number) place = rw s v in
-    (h .number-and-place ∙ e, h .kept (rw e (record { is-positive = omega arith })))
+refuses {Right} verdict size number place v = record {
+  admits = λ old s. filled-refused Right (sym (rw s v)) old (λ e. omega arith);
+  no-other = λ old new o s h.
+      let e : verdict (length old) ≡ outcome (suc number) place = rw s v in
+      (h .number-and-place ∙ e, h .kept (rw e (record { is-positive = omega arith })));
+}
 
 formed-K : Formed p K
 unfolding K section firstFault require _andThen_ rangesVerdict entryVerdict sectionVerdict countsVerdict prefixVerdict circuitVerdict
@@ -104,12 +111,12 @@ right-e : IsQuotient standard K readings (blinders 1 2 3) (8 ∷ 8 ∷ 2 ∷ [])
 unfolding K rows consecutive sum multiple product reduced target
 right-e = of-K (blinders 1 2 3) (8 ∷ 8 ∷ 2 ∷ []) refl tt tt
 
-right-i : IsQuotient standard K1 (1 ∷ 1 ∷ 1 ∷ 1 ∷ []) (blinders 1 1 0) (0 ∷ 1 ∷ [])
-unfolding K1 rows section listed coef assignedAt rowSum total consecutive value sum multiple product reduced target
-right-i = quotient K1 (1 ∷ 1 ∷ 1 ∷ 1 ∷ []) (blinders 1 1 0) (1 ∷ []) (0 ∷ []) (0 ∷ []) (0 ∷ 1 ∷ [])
-    (part formed-K1 (1 ∷ 1 ∷ 1 ∷ 1 ∷ []) 0 0 2 (1 ∷ []) refl tt tt)
-    (part formed-K1 (1 ∷ 1 ∷ 1 ∷ 1 ∷ []) 1 0 2 (0 ∷ []) refl tt tt)
-    (part formed-K1 (1 ∷ 1 ∷ 1 ∷ 1 ∷ []) 2 0 2 (0 ∷ []) refl tt tt)
+right-i : IsQuotient standard K1 ones (blinders 1 1 0) (0 ∷ 1 ∷ [])
+unfolding K1 ones rows section listed coef assignedAt rowSum total consecutive value sum multiple product reduced target
+right-i = quotient K1 ones (blinders 1 1 0) (1 ∷ []) (0 ∷ []) (0 ∷ []) (0 ∷ 1 ∷ [])
+    (part formed-K1 ones 0 0 2 (1 ∷ []) refl tt tt)
+    (part formed-K1 ones 1 0 2 (0 ∷ []) refl tt tt)
+    (part formed-K1 ones 2 0 2 (0 ∷ []) refl tt tt)
     refl tt tt
 
 right-f : IsAnswers standard K readings (blinders 1 2 3) 0 (answers 2013265920 7 24 8)
@@ -135,8 +142,17 @@ only-quotient formed a d f g = quotient-unique sound formed a d
 only-column : {c : List ℕ} → Formed p c → (matrix j : ℕ) (f g : List ℕ) → Column standard c matrix j f → Column standard c matrix j g → f ≡ g
 only-column formed matrix j f g = interpolation-unique (sound .field .prime) (distinct-points sound formed)
 
+-- the quotient of line e is the only one
+not-e : CandidateDivides standard K readings (blinders 1 2 3) (8 ∷ 8 ∷ 3 ∷ []) → ⊥
+unfolding K rows consecutive
+not-e divides =
+    let right = candidate-quotient sound formed-K readings (blinders 1 2 3) refl (all-words p (8 ∷ 8 ∷ 3 ∷ []) tt) divides in
+    let same = quotient-unique sound formed-K readings (blinders 1 2 3) right right-e in
+    let last : _≡_ {A = ℕ} 3 2 = ap (λ (f : List ℕ). getD f 2 0) same in
+    omega arith
+
 pub marked : Marked
-unfolding K K1 readings rows section listed coef assignedAt rowSum total consecutive value sum multiple product reduced target
+unfolding K K1 readings ones rows section listed coef assignedAt rowSum total consecutive value sum multiple product reduced target
     firstFault require _andThen_ rangesVerdict entryVerdict sectionVerdict countsVerdict prefixVerdict circuitVerdict wordsVerdict valuesVerdict assignmentVerdict rowVerdict rowsVerdict
     among pointVerdict lengthVerdict targetVerdict columnVerdict readyVerdict quotientVerdict answersVerdict checkDivisionVerdict
 marked = record {
@@ -145,16 +161,22 @@ marked = record {
   c = writes (columnVerdict standard K 1 1) refl (column K 1 1 (2013265919 ∷ 2 ∷ []) refl tt tt) (only-column formed-K 1 1);
   d = writes (quotientVerdict standard K readings (blinders 0 0 0)) refl right-d (only-quotient formed-K readings (blinders 0 0 0));
   e = writes (quotientVerdict standard K readings (blinders 1 2 3)) refl right-e (only-quotient formed-K readings (blinders 1 2 3));
-  f = λ o r h. (h .number-and-place, answers-unique sound formed-K readings (blinders 1 2 3) 0 (h .done accepted-fine) right-f);
-  g = refuses (quotientVerdict standard K (2 ∷ 1 ∷ 45 ∷ 2 ∷ 3 ∷ 10 ∷ []) (blinders 1 2 3)) 3 9 1 refl;
-  h = refuses (quotientVerdict standard K (2 ∷ 1 ∷ 46 ∷ 2 ∷ 3 ∷ 9 ∷ []) (blinders 1 2 3)) 3 9 2 refl;
-  i = writes (quotientVerdict standard K1 (1 ∷ 1 ∷ 1 ∷ 1 ∷ []) (blinders 1 1 0)) refl right-i (only-quotient formed-K1 (1 ∷ 1 ∷ 1 ∷ 1 ∷ []) (blinders 1 1 0));
-  j = refuses (quotientVerdict standard K1 (1 ∷ 1 ∷ 1 ∷ 2 ∷ []) (blinders 1 1 0)) 2 9 1 refl;
-  k = λ o h. h .rejects accepted-fine (λ divides.
-      let right = candidate-quotient sound formed-K readings (blinders 1 2 3) refl (all-words p (8 ∷ 8 ∷ 3 ∷ []) tt) divides in
-      let same = quotient-unique sound formed-K readings (blinders 1 2 3) right right-e in
-      let last : _≡_ {A = ℕ} 3 2 = ap (λ (f : List ℕ). getD f 2 0) same in
-      omega arith);
+  f = record {
+    admits = record { number-and-place = refl; done = λ accepted. right-f; none = λ refused. absurd (not-both accepted-fine refused) };
+    no-other = λ o r h. (h .number-and-place, answers-unique sound formed-K readings (blinders 1 2 3) 0 (h .done accepted-fine) right-f);
+  };
+  g = refuses (quotientVerdict standard K (set readings 5 10) (blinders 1 2 3)) 3 9 1 refl;
+  h = refuses (quotientVerdict standard K (set readings 2 46) (blinders 1 2 3)) 3 9 2 refl;
+  i = writes (quotientVerdict standard K1 ones (blinders 1 1 0)) refl right-i (only-quotient formed-K1 ones (blinders 1 1 0));
+  j = refuses (quotientVerdict standard K1 (set ones 3 2) (blinders 1 1 0)) 2 9 1 refl;
+  k = record {
+    admits = record {
+      refused = λ refused. absurd (not-both accepted-fine refused);
+      accepts = λ accepted divides. absurd (not-e divides);
+      rejects = λ accepted differ. refl;
+    };
+    no-other = λ o h. h .rejects accepted-fine not-e;
+  };
   l = refl;
   m = refl;
 }

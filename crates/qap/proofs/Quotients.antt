@@ -2,24 +2,25 @@
 -- RULES 4.
 use mathlib.Core.Path.{_≡_, refl}
 use mathlib.Core.List.{List}
-use Prim.Native.Nat.{ℕ, zero, suc, _<_, _≤_}
+use Prim.Native.Nat.{ℕ, zero, suc, _+_, _*_, _%_, _<_, _≤_}
 use native.Mathlib.Omega.{arith}
 use native.Mathlib.Decide.{decLt}
 use lib.ListN.{length, getD}
 use lib.Dec.{lit<}
-use Rattle.algebra.specs.Polynomial.{Words}
+use Rattle.algebra.specs.Polynomial.{Words, value}
 use Rattle.algebra.specs.Points.{Through}
 use Rattle.algebra.specs.Blinding.{Holds}
 use Rattle.algebra.proofs.Congruence.{≈-sym, ≈-trans, ≈-product}
 use Rattle.algebra.proofs.Blinding.{blinded-exists, blinded-holds, blinded-unique}
-use Rattle.circuit.specs.Circuit.{listedRows, columns}
+use Rattle.circuit.specs.Circuit.{listedRows, publics, columns}
 use Rattle.rows.specs.Rows.{RowHolds, RowsHold, wholeSum}
 use Rattle.circuit.specs.WellFormed.{Formed}
 use Rattle.rows.proofs.Holds.{unlisted-holds}
 use Rattle.qap.specs.Setting.{Setting, Sound, pointsOf}
-use Rattle.qap.specs.Polynomials.{Whole, quotientLength, blinderA, blinderB, blinderC, IsQuotient}
-use Rattle.qap.specs.Answers.{CandidateDivides}
+use Rattle.qap.specs.Polynomials.{Whole, targetOf, quotientLength, blinderA, blinderB, blinderC, IsQuotient}
+use Rattle.qap.specs.Answers.{IsAnswers, CandidateDivides}
 use Rattle.qap.specs.declared.Blinders.{Blinders}
+use Rattle.qap.specs.declared.FourAnswers.{FourAnswers}
 use Rattle.qap.proofs.Settings.{prime, p-positive, distinct-points, listed-points, some-points}
 use Rattle.qap.proofs.Parts.{part-through, part-exists, part-unique}
 
@@ -113,3 +114,33 @@ module _ {S : Setting} (sound : Sound S) {c : List ℕ} (formed : Formed (S .p) 
         let same-C = part-unique sound formed (t .whole-C) (s .whole-C) in
         blinded-unique (p-positive sound) (pointsOf S c) (s .A) (s .B) (s .C) (blinderA d) (blinderB d) (blinderC d)
         (s .quotient) (rw (same-A, same-B, same-C) at (t .quotient))
+
+  -- and so do the answers, under any blinders
+  pub answers-exist : (d : Blinders) (s : ℕ) → RowsHold (S .p) c a → (r : FourAnswers) × IsAnswers S c a d s r
+  answers-exist d s hold =
+      let (A, private-A) = part-exists sound formed a 0 (publics c) (columns c) in
+      let (B, private-B) = part-exists sound formed a 1 (publics c) (columns c) in
+      let (C, private-C) = part-exists sound formed a 2 (publics c) (columns c) in
+      let (H, quotient) = quotient-exists d hold in
+      let z = value (targetOf S c) s in (
+        record {
+          first = (value A s + value (blinderA d) s * z) % S .p;
+          second = (value B s + value (blinderB d) s * z) % S .p;
+          third = (value C s + value (blinderC d) s * z) % S .p;
+          fourth = value H s % S .p;
+        },
+        record {
+          A = A;
+          B = B;
+          C = C;
+          H = H;
+          private-A = private-A;
+          private-B = private-B;
+          private-C = private-C;
+          quotient-H = quotient;
+          first = refl;
+          second = refl;
+          third = refl;
+          fourth = refl;
+        },
+      )

@@ -5,3 +5,4 @@ pub mod Refusals
 pub mod Calls
 pub mod Demands
 pub mod Marked
+pub mod Promises
