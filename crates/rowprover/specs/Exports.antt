@@ -27,6 +27,10 @@ pub record AnswerBytes (c a : List ℕ) (d : Blinders) (s : ℕ) (bytes : List �
   pub are-answers : IsAnswers c a d s answers
   pub are-bytes : bytes ≡ packed (answerWords answers)
 
+-- 10, or these bytes
+abbrev pub RowsFilled : List ℕ → List ℕ → Blinders → ℕ → List ℕ → List ℕ → Outcome → Type 0
+RowsFilled c a d s old new o = Filled (rowsVerdict c a) (AnswerBytes c a d s) old new o
+
 abbrev pub JobBytes : List ℕ → List ℕ → Type 0
 JobBytes w bytes = AnswerBytes (leading w) (assignmentOf w) (blindersOf w) (pointOf w) bytes
 
@@ -34,13 +38,19 @@ JobBytes w bytes = AnswerBytes (leading w) (assignmentOf w) (blindersOf w) (poin
 unfoldable pub wordsThenSize : List ℕ → ℕ → Outcome
 wordsThenSize w size = fileVerdict w andThen lengthVerdict size 16 andThen rowsVerdict (leading w) (assignmentOf w)
 
+abbrev pub WordsFilled : List ℕ → List ℕ → List ℕ → Outcome → Type 0
+WordsFilled w old new o = Filled (wordsThenSize w (length old)) (JobBytes w) old new o
+
 -- answers refuses as the program does: 14 for the length first
 unfoldable pub answersBytesVerdict : List ℕ → ℕ → Outcome
 answersBytesVerdict job size = sizeVerdict (length job) andThen wordsThenSize (unpacked job) size
 
+abbrev pub JobFilled : List ℕ → List ℕ → List ℕ → Outcome → Type 0
+JobFilled job old new o = Filled (answersBytesVerdict job (length old)) (JobBytes (unpacked job)) old new o
+
 pub record AnswersExport (job old new : List ℕ) (result : ℕ) : Type 0 where
   pub outcome : Outcome
-  pub filled : Filled (answersBytesVerdict job (length old)) (JobBytes (unpacked job)) old new outcome
+  pub filled : JobFilled job old new outcome
   pub returned : result ≡ integer outcome
 
 -- the 20 bytes of a query: the point, then the four answers
