@@ -5,14 +5,14 @@ ghost use Prim.Native.Nat.{_+_, _*_, _%_, _≤_};
 ghost use lib.ListN.{length};
 ghost use lib.Seq.{sets};
 ghost use Rattle.slices.specs.Zeros.{zeros};
-ghost use Rattle.packing.specs.Packing.{wordOf, wordAt, unpacked, packed};
+ghost use Rattle.packing.specs.Packing.{wordOf, wordAt, unpacked, packed, jobWords};
 
 // Words of the longest job file, of 37,944 bytes (RULES 7).
 pub const JOB_WORDS: usize = 9486;
 
 // Room for the words of a job. It is made by a call so that its maker can lend a part of it.
 pub fn words_room() -> [u32; JOB_WORDS]
-    ensures { λ r. ⌜ r ≡ zeros 9486 ⌝ }
+    ensures { λ r. ⌜ r ≡ zeros jobWords ⌝ }
 {
     [0u32; JOB_WORDS]
 }

@@ -1,4 +1,4 @@
-// The exported answers: bytes to words, the file's verdict with 8 between 11 and 10, then the four answers as bytes.
+// The exported answers: bytes to words, the file's verdict with 8 between 11 and 10, then the four answers as bytes (RULES 8).
 ghost use mathlib.Core.Path.{_≡_};
 ghost use lib.ListN.{length};
 ghost use Rattle.outcome.specs.Verdict.{Accepted};
@@ -6,14 +6,17 @@ ghost use Rattle.packing.specs.Packing.{packed};
 ghost use Rattle.qap.specs.declared.Blinders.{Blinders};
 ghost use Rattle.qap.specs.declared.FourAnswers.{FourAnswers};
 ghost use Rattle.qap.specs.Refusals.{answerWords, readyVerdict, pointVerdict};
-ghost use Rattle.rowprover.specs.Exports.{RowsFilled, WordsFilled, JobFilled};
+ghost use Rattle.rowprover.specs.Exports.{answersBytes, RowsFilled, WordsFilled, JobFilled};
 use outcome::Outcome;
 use qap::Blinders;
 use qap::FourAnswers;
 
-// The four answers as 16 bytes.
+// Bytes of the four answers (RULES 8).
+const ANSWERS_BYTES: usize = 16;
+
+// The four answers as bytes.
 fn write_answers(r: FourAnswers, out: &mut [u8])
-    requires { ⌜ length (now out) ≡ 16 ⌝ }
+    requires { ⌜ length (now out) ≡ answersBytes ⌝ }
     ensures { λ _. ⌜ now (out .exit) ≡ packed (answerWords r) ⌝ }
 {
     let words = [r.first, r.second, r.third, r.fourth];
@@ -22,7 +25,7 @@ fn write_answers(r: FourAnswers, out: &mut [u8])
 
 // 10, then the answers.
 fn answers_of(circuit: &[u32], values: &[u32], d: Blinders, s: u32, out: &mut [u8]) -> Outcome
-    requires { ⌜ Accepted (readyVerdict (now circuit) (now values) d) × Accepted (pointVerdict (now circuit) s) × (length (now out) ≡ 16) ⌝ }
+    requires { ⌜ Accepted (readyVerdict (now circuit) (now values) d) × Accepted (pointVerdict (now circuit) s) × (length (now out) ≡ answersBytes) ⌝ }
     ensures { λ o. ⌜ RowsFilled (now (circuit .entry)) (now (values .entry)) d s (now (out .entry)) (now (out .exit)) o ⌝ }
 {
     let found = answers::answer_rows(circuit, values, d, s);
@@ -43,7 +46,7 @@ fn answers_words(words: &[u32], out: &mut [u8]) -> Outcome
     if read.number != 0 {
         return read;
     }
-    let sized = refusals::length_verdict(out.len(), 16);
+    let sized = refusals::length_verdict(out.len(), ANSWERS_BYTES);
     if sized.number != 0 {
         return sized;
     }

@@ -10,10 +10,10 @@ use outcome::Outcome;
 use outcome::require;
 use qap::FourAnswers;
 
-// The point and four answers.
+// Bytes of a query: the point and the four answers (RULES 8).
 const QUERY_BYTES: usize = 20;
 
-// The longest public section: 256 values and their count.
+// Bytes of the longest public section: 256 values and their count (RULES 3).
 const MOST_SECTION_BYTES: usize = 1028;
 
 fn check_words(circuit: &[u32], section: &[u32], query: &[u8]) -> Outcome

@@ -5,6 +5,7 @@ use Rattle.outcome.specs.Verdict.{Accepted}
 use Rattle.outcome.proofs.Chain.{called-refused}
 use Rattle.outcome.proofs.Verdict.{is-accepted, goes-on}
 use Rattle.slices.proofs.Rooms.{Back, back}
+use Rattle.packing.specs.Packing.{jobWords}
 use Rattle.packing.proofs.Unpacking.{Fits, fits}
 use Rattle.qap.proofs.Filling.{filled-refused}
 use Rattle.job_file.specs.File.{sizeVerdict}
@@ -25,7 +26,7 @@ accepted c = is-accepted (c .before .before .size-verdict .ensures) (c .if1 .lef
 room : (c : tie.After-words-room) → Fits (c .before .before .before .before .before .before .args .job .now) (c .words-room .result)
 room c =
     let size = size-words _ (accepted (c .before)) in
-    fits 9486 (size .whole) (size .few) (c .words-room .ensures)
+    fits jobWords (size .whole) (size .few) (c .words-room .ensures)
 
 read : (c : tie.After-unpack) →
     Back (length (c .before .before .before .before .before .before .before .before .args .job .now) / 4) (c .before .before .words-room .result) (c .unpack .last .1 .0)

@@ -7,6 +7,7 @@ use Rattle.outcome.specs.Verdict.{Accepted}
 use Rattle.outcome.proofs.Chain.{called-refused}
 use Rattle.outcome.proofs.Verdict.{is-accepted, goes-on}
 use Rattle.slices.proofs.Rooms.{Back, back}
+use Rattle.packing.specs.Packing.{jobWords}
 use Rattle.packing.proofs.Unpacking.{Fits, fits}
 use Rattle.refusals.proofs.Deciding.{judged-refused}
 use Rattle.job_file.proofs.FileLaws.{size-words}
@@ -26,7 +27,7 @@ sized c = sizes-accepted _ _ _ (is-accepted (c .before .before .sizes-verdict .e
 room : (c : tie.After-words-room) → Fits (c .before .before .before .before .before .before .before .args .circuit .now) (c .words-room .result)
 room c =
     let size = size-words _ (sized (c .before) .circuit-size) in
-    fits 9486 (size .whole) (size .few) (c .words-room .ensures)
+    fits jobWords (size .whole) (size .few) (c .words-room .ensures)
 
 read : (c : tie.After-unpack) →
     Back (length (c .before .before .before .before .before .before .before .before .before .args .circuit .now) / 4)
