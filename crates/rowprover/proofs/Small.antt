@@ -16,7 +16,7 @@ use Rattle.qap.specs.Calls.{Judged}
 use Rattle.job_file.specs.File.{sizeVerdict}
 use Rattle.job_file.proofs.FileLaws.{size-words, file-ready}
 use Rattle.job_file.proofs.Places.{Near, near-then, near-next, near-length, near-rows, near-size, near-file, near-require, near-check-answers}
-use Rattle.rowprover.specs.Exports.{wordsThenSize, answersBytesVerdict, sizesVerdict, checkBytesVerdict}
+use Rattle.rowprover.specs.Exports.{answersBytes, wordsThenSize, answersBytesVerdict, sizesVerdict, checkBytesVerdict}
 use Rattle.rowprover.proofs.Sizes.{sizes-accepted}
 
 pub few-words : (b : List ℕ) → Accepted (sizeVerdict (length b)) → length (unpacked b) ≤ jobWords
@@ -29,7 +29,7 @@ unfolding wordsThenSize
 near-words w size few =
     let enough = lit≤ tt in
     near-then (near-file enough w few)
-    (λ h. near-next (near-length enough size 16 (lit≤ tt)) (near-rows enough _ _ (file-ready w h .circuit)))
+    (λ h. near-next (near-length enough size answersBytes (lit≤ tt)) (near-rows enough _ _ (file-ready w h .circuit)))
 
 pub near-answers : (job : List ℕ) (size : ℕ) → Near jobWords (answersBytesVerdict job size)
 unfolding answersBytesVerdict
