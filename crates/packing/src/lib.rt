@@ -1,4 +1,4 @@
-// Words packed into bytes: each is 4 bytes, least significant first.
+// Words packed into bytes: each is 4 bytes, least significant first (RULES 2). And room for the words of a job.
 ghost use mathlib.Core.Path.{_≡_};
 ghost use mathlib.Core.List.{[], _∷_};
 ghost use Prim.Native.Nat.{_+_, _*_, _%_, _≤_};

@@ -16,6 +16,7 @@ const QUERY_BYTES: usize = 20;
 // Bytes of the longest public section: 256 values and their count (RULES 3).
 const MOST_SECTION_BYTES: usize = 1028;
 
+// The word call on the words of the query.
 fn check_words(circuit: &[u32], section: &[u32], query: &[u8]) -> Outcome
     requires { ⌜ length (now query) ≡ queryBytes ⌝ }
     ensures { λ o. ⌜ CheckWords (now (circuit .entry)) (now (section .entry)) (unpacked (now (query .entry))) o ⌝ }
@@ -29,7 +30,7 @@ fn check_words(circuit: &[u32], section: &[u32], query: &[u8]) -> Outcome
     answer_check::check_answers(circuit, section, packing::word_at(query, 0), r)
 }
 
-// A section that a circuit may ask for.
+// The words of a section that a circuit may ask for.
 fn check_section(circuit: &[u32], section: &[u8], query: &[u8]) -> Outcome
     requires { ⌜ Accepted (sizeVerdict (length (now section))) × (length (now section) ≤ mostSectionBytes) × (length (now query) ≡ queryBytes) ⌝ }
     ensures { λ o. ⌜ CheckWords (now (circuit .entry)) (unpacked (now (section .entry))) (unpacked (now (query .entry))) o ⌝ }

@@ -1,10 +1,8 @@
 -- Target and quotient lie in the front of a room each; each call accepts, since the answers' verdict was 0.
-use mathlib.Core.Path.{_≡_, sym, _∙_, ap}
+use mathlib.Core.Path.{sym, _∙_, ap}
 use Prim.Native.Nat.{ℕ, _+_, _≤_}
 use native.Mathlib.Omega.{arith}
 use borrow.Author.Needs.{needs}
-use lib.ListN.{length, take}
-use Rattle.circuit.specs.Circuit.{rows}
 use Rattle.slices.proofs.Rooms.{Front, Back, front, back}
 use Rattle.printed_job.proofs.LinesLaws.{answers-formed, five-written}
 use Rattle.printed_job.proofs.print_five.Statement.{statement}

@@ -1,6 +1,7 @@
 -- 14 first; then the words, in the front of a room that has enough of them.
-use native.Mathlib.Omega.{arith}
+use Prim.Native.Nat.{_/_}
 use borrow.Author.Needs.{needs}
+use lib.ListN.{length}
 use Rattle.outcome.specs.Verdict.{Accepted}
 use Rattle.outcome.proofs.Chain.{called-refused}
 use Rattle.outcome.proofs.Verdict.{is-accepted, goes-on}
@@ -10,8 +11,6 @@ use Rattle.packing.proofs.Unpacking.{Fits, fits}
 use Rattle.qap.proofs.Filling.{filled-refused}
 use Rattle.job_file.specs.File.{sizeVerdict}
 use Rattle.job_file.proofs.FileLaws.{size-words}
-use lib.ListN.{length}
-use Prim.Native.Nat.{_/_}
 use Rattle.rowprover.specs.Exports.{answersBytesVerdict}
 use Rattle.rowprover.proofs.answering.answers_bytes.Statement.{statement}
 use Rattle.rowprover.proofs.answering.answers_bytes.Tie as tie

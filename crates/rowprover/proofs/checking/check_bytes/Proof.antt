@@ -1,9 +1,7 @@
 -- 14 first; then the circuit's words, in the front of a room that has enough of them.
 use Prim.Native.Nat.{_/_}
-use native.Mathlib.Omega.{arith}
 use borrow.Author.Needs.{needs}
 use lib.ListN.{length}
-use Rattle.outcome.specs.Verdict.{Accepted}
 use Rattle.outcome.proofs.Chain.{called-refused}
 use Rattle.outcome.proofs.Verdict.{is-accepted, goes-on}
 use Rattle.slices.proofs.Rooms.{Back, back}

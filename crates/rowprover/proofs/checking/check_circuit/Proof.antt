@@ -1,5 +1,4 @@
 -- A long section is refused unread; else it is read too.
-use native.Mathlib.Omega.{arith}
 use borrow.Author.Needs.{needs}
 use borrow.Author.Tests.{leb-true}
 use lib.Dec.{lit<}
