@@ -2,7 +2,8 @@
 # make test: the gate, the one verdict.
 # make bench: what the loops and the calls cost (docs/BENCH.md).
 # make soak: the static library against the second program on a million generated calls (host/README.md).
-.PHONY: run test bench soak
+# make layers: docs/layers.svg, which crate stands on which, drawn anew from crates.txt (graphviz).
+.PHONY: run test bench soak layers
 
 run:
 	rt check job
@@ -16,3 +17,7 @@ bench:
 
 soak:
 	bash tests/product/soak
+
+layers:
+	tools/layers <crates.txt >docs/layers.dot
+	dot -Tsvg docs/layers.dot -o docs/layers.svg

@@ -1,7 +1,7 @@
-//! Times answers and check of an archive beside the plain second program and the linear method in Rust, in one process,
+//! Times answers and check of an archive beside the plain second program and the linear method in C, in one process,
 //! and prints a table. All sides first have to give the same. A sample is one call; a time is the least of many samples,
 //! taken of the three sides in turn, over rounds of the whole table.
-use second::{exported, jobs, linear, words};
+use second::{exported, jobs, words};
 use std::hint::black_box;
 use std::time::{Duration, Instant};
 
@@ -11,41 +11,45 @@ const ROUNDS: usize = 3;
 const ROUND: Duration = Duration::from_millis(1000);
 const SAMPLES: usize = 20;
 
-extern "C" {
-    fn rowprover_answers(job: *const u8, job_len: usize, out: *mut u8, out_len: usize) -> u64;
-    fn rowprover_check(
-        circuit: *const u8,
-        circuit_len: usize,
-        public: *const u8,
-        public_len: usize,
-        query: *const u8,
-        query_len: usize,
-    ) -> u64;
+/// A linked side: its two C functions as safe ones.
+macro_rules! linked {
+    ($side:ident, $answers:literal, $check:literal) => {
+        mod $side {
+            extern "C" {
+                #[link_name = $answers]
+                fn c_answers(job: *const u8, job_len: usize, out: *mut u8, out_len: usize) -> u64;
+                #[link_name = $check]
+                fn c_check(
+                    circuit: *const u8,
+                    circuit_len: usize,
+                    public: *const u8,
+                    public_len: usize,
+                    query: *const u8,
+                    query_len: usize,
+                ) -> u64;
+            }
+
+            pub fn answers(job: &[u8], out: &mut [u8]) -> u64 {
+                unsafe { c_answers(job.as_ptr(), job.len(), out.as_mut_ptr(), out.len()) }
+            }
+
+            pub fn check(circuit: &[u8], public: &[u8], query: &[u8]) -> u64 {
+                let [c, p, q] = [circuit, public, query];
+                unsafe { c_check(c.as_ptr(), c.len(), p.as_ptr(), p.len(), q.as_ptr(), q.len()) }
+            }
+        }
+    };
 }
 
-fn archive_answers(job: &[u8], out: &mut [u8]) -> u64 {
-    unsafe { rowprover_answers(job.as_ptr(), job.len(), out.as_mut_ptr(), out.len()) }
-}
-
-fn archive_check(circuit: &[u8], public: &[u8], query: &[u8]) -> u64 {
-    unsafe {
-        rowprover_check(
-            circuit.as_ptr(),
-            circuit.len(),
-            public.as_ptr(),
-            public.len(),
-            query.as_ptr(),
-            query.len(),
-        )
-    }
-}
+linked!(archive, "rowprover_answers", "rowprover_check");
+linked!(linear, "linear_answers", "linear_check");
 
 type Answers = fn(&[u8], &mut [u8]) -> u64;
 type Check = fn(&[u8], &[u8], &[u8]) -> u64;
 
 /// Archive, plain second program, linear method.
-const ANSWERS: [Answers; 3] = [archive_answers, exported::answers, linear::answers];
-const CHECK: [Check; 3] = [archive_check, exported::check, linear::check];
+const ANSWERS: [Answers; 3] = [archive::answers, exported::answers, linear::answers];
+const CHECK: [Check; 3] = [archive::check, exported::check, linear::check];
 
 /// The least microseconds of each side.
 type Times = [f64; 3];

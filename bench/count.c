@@ -7,8 +7,8 @@
 #include <stdlib.h>
 #include <string.h>
 
-#include "jobs.h"
 #include "rowprover.h"
+#include "words.h"
 
 static uint8_t job[ROWPROVER_MOST_BYTES + 1], refused_job[ROWPROVER_MOST_BYTES];
 static uint8_t query[ROWPROVER_QUERY_BYTES], refused_query[ROWPROVER_QUERY_BYTES];

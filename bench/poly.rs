@@ -1,9 +1,10 @@
 //! Times each polynomial loop beside the same algorithm in Rust, in one process, and prints a table.
 //! Both sides first have to give the same words. A time is the least of many short samples, taken in turn, over rounds of the whole table.
+use second::field::{inverse, P};
+use second::jobs::chance::Chance;
 use std::hint::black_box;
 use std::time::Instant;
 
-const P: u64 = 2013265921;
 const SIZES: [usize; 3] = [64, 128, 256];
 const ROUNDS: usize = 8;
 const SAMPLES: usize = 500;
@@ -104,29 +105,9 @@ mod rust {
 }
 
 /// Words below p that repeat from run to run.
-fn words(n: usize, mut seed: u64) -> Vec<u32> {
-    (0..n)
-        .map(|_| {
-            seed = seed.wrapping_mul(6364136223846793005).wrapping_add(1442695040888963407);
-            ((seed >> 33) % P) as u32
-        })
-        .collect()
-}
-
-fn inverses() -> [u32; 256] {
-    let mut t = [0; 256];
-    for (i, entry) in t.iter_mut().enumerate() {
-        let (mut base, mut left, mut power) = (i as u64 + 1, P - 2, 1);
-        while left > 0 {
-            if left & 1 == 1 {
-                power = power * base % P;
-            }
-            base = base * base % P;
-            left >>= 1;
-        }
-        *entry = power as u32;
-    }
-    t
+fn words(n: usize, seed: u64) -> Vec<u32> {
+    let mut chance = Chance::new(seed, 0);
+    (0..n).map(|_| (chance.word() % P) as u32).collect()
 }
 
 /// The least nanoseconds of one call of each side.
@@ -275,7 +256,7 @@ fn kernels(table: &[u32; 256]) -> Vec<Kernel<'_>> {
 }
 
 fn main() {
-    let table = inverses();
+    let table: [u32; 256] = std::array::from_fn(|i| inverse(i as u64 + 1) as u32);
     let kernels = kernels(&table);
     let mut best = vec![[(f64::MAX, f64::MAX); 3]; kernels.len()];
     for _ in 0..ROUNDS {

@@ -1,8 +1,9 @@
-# Counting for the scripts in tests/, which source this file: every step adds to $passed or $failed, what a step
-# writes is shown only where it fails, and `close` prints the one line that the gate reads.
+# shellcheck shell=bash
+# Steps of the scripts in tests/, which source this file at the repository's root: every step adds to $passed or to
+# $failed, what it writes is shown only where it fails, and `close` prints the one line that the gate reads.
 
-passed=0
-failed=0
+source .ci/closing.sh || exit 2
+
 log=$(mktemp)
 work=$(mktemp -d)
 trap 'rm -rf "$log" "$work"' EXIT
@@ -11,10 +12,15 @@ good() {
     passed=$((passed + 1))
 }
 
-bad() {
-    failed=$((failed + 1))
+# Names a step that failed, with the end of what it wrote.
+show() {
     printf 'failed: %s\n' "$1"
     tail -n 40 "$log"
+}
+
+bad() {
+    failed=$((failed + 1))
+    show "$1"
 }
 
 # needs COMMAND PACKAGE..: installs the packages where there is no such command.
@@ -32,18 +38,12 @@ plain() {
 
 # A command that ends in 'N passed, M failed' itself.
 counted() {
-    local status=0 p=0 f=0
+    local status=0
     "$@" >"$log" 2>&1 </dev/null || status=$?
-    if [[ $(tail -n 1 "$log") =~ ^([0-9]+)\ passed,\ ([0-9]+)\ failed$ ]]; then
-        p=${BASH_REMATCH[1]}
-        f=${BASH_REMATCH[2]}
-    fi
-    printf '%s: %s passed, %s failed\n' "$*" "$p" "$f"
-    passed=$((passed + p))
-    if [[ $status -ne 0 || $p -eq 0 || $f -ne 0 ]]; then
-        # `bad` counts one.
-        failed=$((failed + (f > 0 ? f - 1 : 0)))
-        bad "$* (status $status)"
+    if tally "$status" "$log"; then
+        printf '%s: %s\n' "$*" "$(tail -n 1 "$log")"
+    else
+        show "$* (status $status)"
     fi
 }
 
@@ -53,9 +53,4 @@ must_fail() {
     # In braces, so that the shell's own word on a killed command goes to the log too.
     { "$@"; } >"$log" 2>&1 </dev/null || status=$?
     if [[ $status -ne 0 && $status -ne 2 ]]; then good; else bad "has to fail: $* (status $status)"; fi
-}
-
-close() {
-    printf '%s passed, %s failed\n' "$passed" "$failed"
-    [[ $failed -eq 0 && $passed -gt 0 ]]
 }

@@ -3,8 +3,7 @@
 #ifndef JOBS_H
 #define JOBS_H
 
-#include <stddef.h>
-#include <stdint.h>
+#include "words.h"
 
 enum {
     CIRCUIT_WORDS = 27,                                     /* of J, from word 0 */
@@ -20,20 +19,6 @@ static const uint32_t J[J_WORDS] = {
     2, 2, 4,  2, 1, 3, 1, 2, 4, 1,  3, 1, 3, 1, 2, 1, 2, 2, 3, 1,  2, 1, 4, 1, 2, 2, 1,
     2, 1, 45,  2, 3, 9,  3, 1, 2, 3,  1, 3
 };
-
-static inline void put_word(uint8_t *bytes, size_t index, uint32_t word)
-{
-    for (size_t k = 0; k < 4; k++)
-        bytes[4 * index + k] = (uint8_t)(word >> (8 * k));
-}
-
-static inline uint32_t get_word(const uint8_t *bytes, size_t index)
-{
-    uint32_t word = 0;
-    for (size_t k = 4; k-- > 0;)
-        word = word << 8 | bytes[4 * index + k];
-    return word;
-}
 
 /* Four entries in each row of each matrix and all values 1: a row is 4 times 4 equals 16. */
 static inline void put_full_job(uint8_t *bytes)

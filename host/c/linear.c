@@ -1,8 +1,9 @@
 /* The two functions of rowprover.h once more, by the best-known method in textbook C: linear in rows plus entries, words
- * taken straight from the bytes, no polynomial. It is the yardstick for instruction counts (docs/BENCH.md), as
- * rust/src/linear.rs is for times, and no part of the product. */
+ * taken straight from the bytes, no polynomial. It is the yardstick for times and instruction counts (docs/BENCH.md),
+ * and no part of the product. */
 
 #include "rowprover.h"
+#include "words.h"
 
 enum { MOST_ROWS = 256, MOST_COLUMNS = 256, MOST_ENTRIES = 1024, MATRICES = 3, BLINDERS = 3, ANSWERS = 4, TAIL = 6 };
 
@@ -77,18 +78,6 @@ static uint32_t inverse(uint32_t a)
     return power;
 }
 
-static uint32_t word_at(const uint8_t *bytes, size_t index)
-{
-    const uint8_t *b = bytes + 4 * index;
-    return (uint32_t)b[0] | (uint32_t)b[1] << 8 | (uint32_t)b[2] << 16 | (uint32_t)b[3] << 24;
-}
-
-static void put_word(uint8_t *bytes, size_t index, uint32_t word)
-{
-    for (size_t k = 0; k < 4; k++)
-        bytes[4 * index + k] = (uint8_t)(word >> (8 * k));
-}
-
 static uint64_t refused(unsigned number, size_t place)
 {
     return (uint64_t)place << 8 | number;
@@ -104,7 +93,7 @@ static uint64_t read_entries(const struct circuit *c, const uint8_t *entry, uint
 {
     uint32_t row_before = 0, column_before = 0;
     for (uint32_t e = 0; e < entries; e++, entry += 12, at += 3) {
-        uint32_t row = word_at(entry, 0), column = word_at(entry, 1), value = word_at(entry, 2);
+        uint32_t row = get_word(entry, 0), column = get_word(entry, 1), value = get_word(entry, 2);
         if (row < 1 || row > c->m || column < 1 || column > c->n)
             return refused(ROWPROVER_POSITION, at);
         if (value < 1 || value >= ROWPROVER_PRIME)
@@ -122,9 +111,9 @@ static uint64_t read_circuit(const uint8_t *bytes, size_t words, struct circuit 
 {
     if (words < 3)
         return refused(ROWPROVER_CIRCUIT, words);
-    c->m = word_at(bytes, 0);
-    c->q = word_at(bytes, 1);
-    c->n = word_at(bytes, 2);
+    c->m = get_word(bytes, 0);
+    c->q = get_word(bytes, 1);
+    c->n = get_word(bytes, 2);
     if (c->m < 1 || c->m > MOST_ROWS)
         return refused(ROWPROVER_RANGE, 0);
     if (c->n < 1 || c->n > MOST_COLUMNS)
@@ -135,7 +124,7 @@ static uint64_t read_circuit(const uint8_t *bytes, size_t words, struct circuit 
     for (int matrix = 0; matrix < MATRICES; matrix++) {
         if (at == words)
             return refused(ROWPROVER_CIRCUIT, words);
-        uint32_t entries = word_at(bytes, at);
+        uint32_t entries = get_word(bytes, at);
         if (entries > MOST_ENTRIES)
             return refused(ROWPROVER_RANGE, at);
         at++;
@@ -155,10 +144,10 @@ static uint64_t read_circuit(const uint8_t *bytes, size_t words, struct circuit 
 /* 7 over a public section or an assignment, counts included. */
 static uint64_t read_values(const uint8_t *section, size_t words)
 {
-    if (word_at(section, 1) != 1)
+    if (get_word(section, 1) != 1)
         return refused(ROWPROVER_ASSIGNED, 1);
     for (size_t i = 0; i < words; i++)
-        if (word_at(section, i) >= ROWPROVER_PRIME)
+        if (get_word(section, i) >= ROWPROVER_PRIME)
             return refused(ROWPROVER_ASSIGNED, i);
     return ROWPROVER_DONE;
 }
@@ -167,7 +156,7 @@ static uint64_t read_values(const uint8_t *section, size_t words)
 static uint64_t read_query(const uint8_t *first, size_t words, uint32_t point, uint32_t m)
 {
     for (size_t i = 0; i < words; i++)
-        if (word_at(first, i) >= ROWPROVER_PRIME)
+        if (get_word(first, i) >= ROWPROVER_PRIME)
             return refused(ROWPROVER_WORD, i);
     if (point >= ROWPROVER_PRIME || (point >= 1 && point <= m))
         return refused(ROWPROVER_POINT, 0);
@@ -197,8 +186,8 @@ static void add_entries(const struct circuit *c, int matrix, const uint32_t *w, 
 {
     const uint8_t *entry = c->entry[matrix];
     for (uint32_t e = 0; e < c->entries[matrix]; e++, entry += 12) {
-        uint32_t row = word_at(entry, 0) - 1, column = word_at(entry, 1);
-        uint32_t term = times(word_at(entry, 2), w[column]);
+        uint32_t row = get_word(entry, 0) - 1, column = get_word(entry, 1);
+        uint32_t term = times(get_word(entry, 2), w[column]);
         all[row] = plus(all[row], term);
         if (column > c->q)
             own[row] = plus(own[row], term);
@@ -223,15 +212,15 @@ uint64_t rowprover_answers(const uint8_t *job, size_t job_len, uint8_t *out, siz
         return found;
     const uint8_t *assignment = job + 4 * c.end;
     size_t rest = job_len / 4 - c.end, assigned = (size_t)c.n + 2;
-    if (rest < assigned || word_at(assignment, 0) != c.q || word_at(assignment, c.q + 1) != c.n - c.q)
+    if (rest < assigned || get_word(assignment, 0) != c.q || get_word(assignment, c.q + 1) != c.n - c.q)
         return refused(ROWPROVER_SECTION, 0);
     found = read_values(assignment, assigned);
     if (found != ROWPROVER_DONE)
         return found;
     const uint8_t *tail = assignment + 4 * assigned;
-    if (rest - assigned != TAIL || word_at(tail, 0) != BLINDERS || word_at(tail, 4) != 1)
+    if (rest - assigned != TAIL || get_word(tail, 0) != BLINDERS || get_word(tail, 4) != 1)
         return refused(ROWPROVER_SHAPE, 0);
-    uint32_t s = word_at(tail, 5);
+    uint32_t s = get_word(tail, 5);
     found = read_query(tail + 4, BLINDERS, s, c.m);
     if (found != ROWPROVER_DONE)
         return found;
@@ -240,7 +229,7 @@ uint64_t rowprover_answers(const uint8_t *job, size_t job_len, uint8_t *out, siz
 
     uint32_t w[MOST_COLUMNS + 1];
     for (uint32_t j = 1; j <= c.n; j++)
-        w[j] = word_at(assignment, j <= c.q ? j : j + 1);
+        w[j] = get_word(assignment, j <= c.q ? j : j + 1);
     uint32_t all[MATRICES][MOST_ROWS] = {{0}}, own[MATRICES][MOST_ROWS] = {{0}};
     for (int matrix = 0; matrix < MATRICES; matrix++)
         add_entries(&c, matrix, w, all[matrix], own[matrix]);
@@ -251,7 +240,7 @@ uint64_t rowprover_answers(const uint8_t *job, size_t job_len, uint8_t *out, siz
     uint32_t basis[MOST_ROWS], blinded[MATRICES];
     uint32_t z = basis_values(c.m, s, basis);
     for (int matrix = 0; matrix < MATRICES; matrix++) {
-        uint32_t blind = times(word_at(tail, 1 + (size_t)matrix), z);
+        uint32_t blind = times(get_word(tail, 1 + (size_t)matrix), z);
         put_word(out, (size_t)matrix, plus(dot(own[matrix], basis, c.m), blind));
         blinded[matrix] = plus(dot(all[matrix], basis, c.m), blind);
     }
@@ -271,12 +260,12 @@ uint64_t rowprover_check(const uint8_t *circuit, size_t circuit_len,
         return found;
     if (c.end != circuit_len / 4)
         return refused(ROWPROVER_CIRCUIT, circuit_len / 4);
-    if (public_len / 4 != (size_t)c.q + 1 || word_at(public_section, 0) != c.q)
+    if (public_len / 4 != (size_t)c.q + 1 || get_word(public_section, 0) != c.q)
         return refused(ROWPROVER_SECTION, 0);
     found = read_values(public_section, public_len / 4);
     if (found != ROWPROVER_DONE)
         return found;
-    uint32_t s = word_at(query, 0);
+    uint32_t s = get_word(query, 0);
     found = read_query(query + 4, ANSWERS, s, c.m);
     if (found != ROWPROVER_DONE)
         return found;
@@ -285,15 +274,15 @@ uint64_t rowprover_check(const uint8_t *circuit, size_t circuit_len,
     uint32_t z = basis_values(c.m, s, basis);
     for (int matrix = 0; matrix < MATRICES; matrix++) {
         const uint8_t *entry = c.entry[matrix];
-        sum[matrix] = word_at(query, 1 + (size_t)matrix);
+        sum[matrix] = get_word(query, 1 + (size_t)matrix);
         for (uint32_t e = 0; e < c.entries[matrix]; e++, entry += 12) {
-            uint32_t row = word_at(entry, 0), column = word_at(entry, 1);
+            uint32_t row = get_word(entry, 0), column = get_word(entry, 1);
             if (column <= c.q) {
-                uint32_t term = times(word_at(entry, 2), word_at(public_section, column));
+                uint32_t term = times(get_word(entry, 2), get_word(public_section, column));
                 sum[matrix] = plus(sum[matrix], times(term, basis[row - 1]));
             }
         }
     }
-    int equal = minus(times(sum[0], sum[1]), sum[2]) == times(z, word_at(query, 4));
+    int equal = minus(times(sum[0], sum[1]), sum[2]) == times(z, get_word(query, 4));
     return equal ? ROWPROVER_DONE : refused(ROWPROVER_EQUALITY, 0);
 }

@@ -8,8 +8,10 @@
  * input; two inputs may overlap. For a length of 0 pass any pointer but NULL: nothing is read or written through it.
  * All words inside the bytes are u32, least significant byte first. A call takes about 44 KiB of stack.
  *
- * What these answers prove to nobody by themselves: they bind no one without a commitment layer above them, and one
- * triple of blinders must serve one point only. */
+ * What check means by 0: exactly that the four numbers satisfy the equation (RULES 5) at the point, for the circuit and
+ * the public values. The box's numbers for private values with which every row holds always do. Alone they bind
+ * nobody: whoever knows the point can choose three numbers and work out the fourth. The commitment layer above adds
+ * that, by fixing the polynomials before the point is drawn. One triple of blinders must serve one point only. */
 
 #ifndef ROWPROVER_H
 #define ROWPROVER_H
@@ -54,9 +56,9 @@ enum rowprover_number {
  * the order 14 (length), circuit 1 to 5 from its front, 6, 7, 14 (what remains), 12, 11, 8, 10. */
 uint64_t rowprover_answers(const uint8_t *job, size_t job_len, uint8_t *out, size_t out_len);
 
-/* Are these the answers of someone who knows private values for this circuit and these public values? The public
- * section is the count q and the q public values. ROWPROVER_DONE accepts, ROWPROVER_EQUALITY rejects, any other
- * number refuses to look. The order is 14, circuit 1 to 5 from its front and its length last, 6, 7, 12, 11, 13. */
+/* Do the four answers satisfy the equation at the point, for this circuit and these public values? The public section
+ * is the count q and the q public values. ROWPROVER_DONE: they do. ROWPROVER_EQUALITY: they do not. Any other number
+ * refuses to look. The order is 14, circuit 1 to 5 from its front and its length last, 6, 7, 12, 11, 13. */
 uint64_t rowprover_check(const uint8_t *circuit, size_t circuit_len,
                          const uint8_t *public_section, size_t public_len,
                          const uint8_t *query, size_t query_len);

@@ -12,8 +12,8 @@
 #include <stdlib.h>
 #include <string.h>
 
-#include "jobs.h"
 #include "rowprover.h"
+#include "words.h"
 
 enum { ANSWERS = 1, CHECK = 2, SLICES = 3, HEAD = 4 * (1 + SLICES), MOST = 1 << 16, MARGIN = 64, KNOWN = 0xA5 };
 

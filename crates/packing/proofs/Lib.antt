@@ -1,1 +1,2 @@
 pub mod PackingLaws
+pub mod Unpacking

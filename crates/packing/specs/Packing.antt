@@ -24,3 +24,7 @@ unpacked (a ∷ b ∷ c ∷ d ∷ rest) = wordOf a b c d ∷ unpacked rest
 unfoldable pub packed : List ℕ → List ℕ
 packed [] = []
 packed (w ∷ ws) = w % 256 ∷ w / 256 % 256 ∷ w / 65536 % 256 ∷ w / 16777216 % 256 ∷ packed ws
+
+-- words of the longest job file, of 37,944 bytes: RULES 7
+abbrev pub jobWords : ℕ
+jobWords = 9486

@@ -1,10 +1,21 @@
-// Words packed into bytes: each is 4 bytes, least significant first.
+// Words packed into bytes: each is 4 bytes, least significant first (RULES 2). And room for the words of a job.
 ghost use mathlib.Core.Path.{_≡_};
 ghost use mathlib.Core.List.{[], _∷_};
 ghost use Prim.Native.Nat.{_+_, _*_, _%_, _≤_};
 ghost use lib.ListN.{length};
 ghost use lib.Seq.{sets};
-ghost use Rattle.packing.specs.Packing.{wordOf, wordAt, unpacked, packed};
+ghost use Rattle.slices.specs.Zeros.{zeros};
+ghost use Rattle.packing.specs.Packing.{wordOf, wordAt, unpacked, packed, jobWords};
+
+// Words of the longest job file, of 37,944 bytes (RULES 7).
+pub const JOB_WORDS: usize = 9486;
+
+// Room for the words of a job. It is made by a call so that its maker can lend a part of it.
+pub fn words_room() -> [u32; JOB_WORDS]
+    ensures { λ r. ⌜ r ≡ zeros jobWords ⌝ }
+{
+    [0u32; JOB_WORDS]
+}
 
 // The word of four bytes.
 fn word_of(a: u8, b: u8, c: u8, d: u8) -> u32

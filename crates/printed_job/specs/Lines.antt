@@ -13,13 +13,17 @@ use Rattle.qap.specs.declared.Blinders.{Blinders}
 use Rattle.qap.specs.declared.FourAnswers.{FourAnswers}
 use Rattle.qap.specs.Polynomials.{targetOf, IsQuotient}
 use Rattle.qap.specs.Answers.{IsAnswers}
-use Rattle.qap.specs.Refusals.{answerWords}
+use Rattle.qap.specs.Refusals.{answerWords, answersVerdict}
 use Rattle.qap.specs.Calls.{CheckAnswersCall}
 use Rattle.job_file.specs.File.{assignmentOf, blindersOf, pointOf, sizeVerdict, jobVerdict}
 
 -- 14 for the length first, then what the words say
 unfoldable pub programVerdict : List ℕ → Outcome
 programVerdict bytes = sizeVerdict (length bytes) andThen jobVerdict (unpacked bytes)
+
+-- words of the longest target and quotient: one more than the most rows, RULES 4
+abbrev pub mostCoefficients : ℕ
+mostCoefficients = 257
 
 -- number and place; target; quotient; the four answers; the answer check's number
 abbrev pub fiveLines : List ℕ → List ℕ → FourAnswers → ℕ → List ℕ
@@ -48,6 +52,14 @@ FiveLines w text = FiveOf (leading w) (assignmentOf w) (blindersOf w) (pointOf w
 pub record Reports (verdict : Outcome) (Done : List ℕ → Type 0) (text : List ℕ) : Type 0 where
   pub done : Accepted verdict → Done text
   pub refused : Refused verdict → text ≡ line (verdict .number ∷ verdict .place ∷ [])
+
+-- the text of a job's parts, of a file's words, and of a file's bytes
+
+abbrev pub PrintsParts : List ℕ → List ℕ → Blinders → ℕ → List ℕ → Type 0
+PrintsParts c a d s = Reports (answersVerdict c a d s) (FiveOf c a d s)
+
+abbrev pub PrintsWords : List ℕ → List ℕ → Type 0
+PrintsWords w = Reports (jobVerdict w) (FiveLines w)
 
 abbrev pub Prints : List ℕ → List ℕ → Type 0
 Prints bytes = Reports (programVerdict bytes) (FiveLines (unpacked bytes))

@@ -9,6 +9,10 @@ pub record TextUpTo (Says : List ℕ → Type 0) (before bytes : List ℕ) (end 
   pub rest : Kept before bytes end
   pub within : end ≤ length bytes
 
+-- bytes that are enough for the five lines
+abbrev pub textRoom : ℕ
+textRoom = 11008
+
 -- the bytes before anything is written
 unfoldable pub blank : List ℕ
-blank = replicate 11008 0
+blank = replicate textRoom 0

@@ -10,36 +10,42 @@ use lib.ListN.{length}
 use Rattle.outcome.specs.declared.Outcome.{Outcome}
 use Rattle.outcome.specs.Verdict.{Accepted, Refused}
 use Rattle.outcome.proofs.Verdict.{accepted-or-refused}
-use Rattle.packing.specs.Packing.{unpacked}
+use Rattle.packing.specs.Packing.{unpacked, jobWords}
 use Rattle.packing.proofs.PackingLaws.{length-unpacked}
 use Rattle.qap.specs.Calls.{Judged}
 use Rattle.job_file.specs.File.{sizeVerdict}
 use Rattle.job_file.proofs.FileLaws.{size-words, file-ready}
 use Rattle.job_file.proofs.Places.{Near, near-then, near-next, near-length, near-rows, near-size, near-file, near-require, near-check-answers}
-use Rattle.rowprover.specs.Exports.{wordsThenSize, answersBytesVerdict, checkBytesVerdict}
+use Rattle.rowprover.specs.Exports.{answersBytes, wordsThenSize, answersBytesVerdict, sizesVerdict, checkBytesVerdict}
+use Rattle.rowprover.proofs.Sizes.{sizes-accepted}
 
-pub few-words : (b : List ℕ) → Accepted (sizeVerdict (length b)) → length (unpacked b) ≤ 9486
+pub few-words : (b : List ℕ) → Accepted (sizeVerdict (length b)) → length (unpacked b) ≤ jobWords
 few-words b h =
     let size = size-words (length b) h in
     omega (arith, length-unpacked b (length b / 4) (size .whole), size .few)
 
-near-words : (w : List ℕ) (size : ℕ) → length w ≤ 9486 → Near 9486 (wordsThenSize w size)
+near-words : (w : List ℕ) (size : ℕ) → length w ≤ jobWords → Near jobWords (wordsThenSize w size)
 unfolding wordsThenSize
 near-words w size few =
     let enough = lit≤ tt in
     near-then (near-file enough w few)
-    (λ h. near-next (near-length enough size 16 (lit≤ tt)) (near-rows enough _ _ (file-ready w h .circuit)))
+    (λ h. near-next (near-length enough size answersBytes (lit≤ tt)) (near-rows enough _ _ (file-ready w h .circuit)))
 
-pub near-answers : (job : List ℕ) (size : ℕ) → Near 9486 (answersBytesVerdict job size)
+pub near-answers : (job : List ℕ) (size : ℕ) → Near jobWords (answersBytesVerdict job size)
 unfolding answersBytesVerdict
 near-answers job size = near-then (near-size (lit≤ tt) (length job)) (λ h. near-words (unpacked job) size (few-words job h))
 
-pub near-check : (circuit section query : List ℕ) → Near 9486 (checkBytesVerdict circuit section query)
-unfolding checkBytesVerdict
-near-check circuit section query =
+near-sizes : (circuit section query : ℕ) → Near jobWords (sizesVerdict circuit section query)
+unfolding sizesVerdict
+near-sizes circuit section query =
     let enough = lit≤ tt in
-    near-then (near-size enough (length circuit)) (λ h. near-then (near-size enough (length section)) (λ k.
-    near-next (near-require _ 14 0 (lit≤ tt)) (near-check-answers enough _ _ _ _ (few-words circuit h) (few-words section k))))
+    near-next (near-size enough circuit) (near-next (near-size enough section) (near-require _ 14 0 (lit≤ tt)))
+
+pub near-check : (circuit section query : List ℕ) → Near jobWords (checkBytesVerdict circuit section query)
+unfolding checkBytesVerdict
+near-check circuit section query = near-then (near-sizes _ _ _) (λ h.
+    let sized = sizes-accepted _ _ _ h in
+    near-check-answers (lit≤ tt) _ _ _ _ (few-words circuit (sized .circuit-size)) (few-words section (sized .section-size)))
 
 -- a check's outcome is its verdict, or at place 0
 pub near-judged : {bound : ℕ} {verdict o : Outcome} {Equal : Type 0} → Near bound verdict → Judged verdict Equal o → Near bound o

@@ -1,23 +1,22 @@
-// The exported answers: bytes to words, the file's verdict with 8 between 11 and 10, then the four answers as bytes.
+// The exported answers: bytes to words, the file's verdict with 8 between 11 and 10, then the four answers as bytes (RULES 8).
 ghost use mathlib.Core.Path.{_≡_};
-ghost use Prim.Native.Nat.{_*_, _≤_};
 ghost use lib.ListN.{length};
 ghost use Rattle.outcome.specs.Verdict.{Accepted};
-ghost use Rattle.packing.specs.Packing.{packed, unpacked};
-ghost use Rattle.rows.specs.Rows.{rowsVerdict};
+ghost use Rattle.packing.specs.Packing.{packed};
 ghost use Rattle.qap.specs.declared.Blinders.{Blinders};
 ghost use Rattle.qap.specs.declared.FourAnswers.{FourAnswers};
 ghost use Rattle.qap.specs.Refusals.{answerWords, readyVerdict, pointVerdict};
-ghost use Rattle.qap.specs.Calls.{Filled};
-ghost use Rattle.job_file.specs.File.{sizeVerdict};
-ghost use Rattle.rowprover.specs.Exports.{AnswerBytes, JobBytes, wordsThenSize, answersBytesVerdict};
+ghost use Rattle.rowprover.specs.Exports.{answersBytes, RowsFilled, WordsFilled, JobFilled};
 use outcome::Outcome;
 use qap::Blinders;
 use qap::FourAnswers;
 
-// The four answers as 16 bytes.
+// Bytes of the four answers (RULES 8).
+const ANSWERS_BYTES: usize = 16;
+
+// The four answers as bytes.
 fn write_answers(r: FourAnswers, out: &mut [u8])
-    requires { ⌜ length (now out) ≡ 16 ⌝ }
+    requires { ⌜ length (now out) ≡ answersBytes ⌝ }
     ensures { λ _. ⌜ now (out .exit) ≡ packed (answerWords r) ⌝ }
 {
     let words = [r.first, r.second, r.third, r.fourth];
@@ -26,8 +25,8 @@ fn write_answers(r: FourAnswers, out: &mut [u8])
 
 // 10, then the answers.
 fn answers_of(circuit: &[u32], values: &[u32], d: Blinders, s: u32, out: &mut [u8]) -> Outcome
-    requires { ⌜ Accepted (readyVerdict (now circuit) (now values) d) × Accepted (pointVerdict (now circuit) s) × (length (now out) ≡ 16) ⌝ }
-    ensures { λ o. ⌜ Filled (rowsVerdict (now (circuit .entry)) (now (values .entry))) (AnswerBytes (now (circuit .entry)) (now (values .entry)) d s) (now (out .entry)) (now (out .exit)) o ⌝ }
+    requires { ⌜ Accepted (readyVerdict (now circuit) (now values) d) × Accepted (pointVerdict (now circuit) s) × (length (now out) ≡ answersBytes) ⌝ }
+    ensures { λ o. ⌜ RowsFilled (now (circuit .entry)) (now (values .entry)) d s (now (out .entry)) (now (out .exit)) o ⌝ }
 {
     let found = answers::answer_rows(circuit, values, d, s);
     let hold = found.outcome;
@@ -40,14 +39,14 @@ fn answers_of(circuit: &[u32], values: &[u32], d: Blinders, s: u32, out: &mut [u
 
 // The words of a job.
 fn answers_words(words: &[u32], out: &mut [u8]) -> Outcome
-    ensures { λ o. ⌜ Filled (wordsThenSize (now (words .entry)) (length (now (out .entry)))) (JobBytes (now (words .entry))) (now (out .entry)) (now (out .exit)) o ⌝ }
+    ensures { λ o. ⌜ WordsFilled (now (words .entry)) (now (out .entry)) (now (out .exit)) o ⌝ }
 {
     let job = job_file::read(words);
     let read = job.outcome;
     if read.number != 0 {
         return read;
     }
-    let sized = refusals::length_verdict(out.len(), 16);
+    let sized = refusals::length_verdict(out.len(), ANSWERS_BYTES);
     if sized.number != 0 {
         return sized;
     }
@@ -56,37 +55,16 @@ fn answers_words(words: &[u32], out: &mut [u8]) -> Outcome
     answers_of(&words[..end], &words[end..last], job.d, job.s, out)
 }
 
-fn answers_lent(job: &[u8], words: &mut [u32], out: &mut [u8]) -> Outcome
-    requires { ⌜ length (now job) ≡ 4 * length (now words) ⌝ }
-    ensures { λ o. ⌜ Filled (wordsThenSize (unpacked (now (job .entry))) (length (now (out .entry)))) (JobBytes (unpacked (now (job .entry)))) (now (out .entry)) (now (out .exit)) o ⌝ }
-{
-    packing::unpack(job, words);
-    answers_words(words, out)
-}
-
-fn answers_cut(job: &[u8], words: &mut [u32], out: &mut [u8]) -> Outcome
-    requires { ⌜ Accepted (sizeVerdict (length (now job))) × (9486 ≤ length (now words)) ⌝ }
-    ensures { λ o. ⌜ Filled (wordsThenSize (unpacked (now (job .entry))) (length (now (out .entry)))) (JobBytes (unpacked (now (job .entry)))) (now (out .entry)) (now (out .exit)) o ⌝ }
-{
-    let end = job.len() / 4;
-    answers_lent(job, &mut words[..end], out)
-}
-
-fn answers_sized(job: &[u8], out: &mut [u8]) -> Outcome
-    requires { ⌜ Accepted (sizeVerdict (length (now job))) ⌝ }
-    ensures { λ o. ⌜ Filled (wordsThenSize (unpacked (now (job .entry))) (length (now (out .entry)))) (JobBytes (unpacked (now (job .entry)))) (now (out .entry)) (now (out .exit)) o ⌝ }
-{
-    let mut words = [0u32; 9486];
-    answers_cut(job, &mut words, out)
-}
-
-// 14 first.
+// 14 first, then the words that the bytes hold.
 pub fn answers_bytes(job: &[u8], out: &mut [u8]) -> Outcome
-    ensures { λ o. ⌜ Filled (answersBytesVerdict (now (job .entry)) (length (now (out .entry)))) (JobBytes (unpacked (now (job .entry)))) (now (out .entry)) (now (out .exit)) o ⌝ }
+    ensures { λ o. ⌜ JobFilled (now (job .entry)) (now (out .entry)) (now (out .exit)) o ⌝ }
 {
     let sized = job_file::size_verdict(job.len());
     if sized.number != 0 {
         return sized;
     }
-    answers_sized(job, out)
+    let end = job.len() / 4;
+    let mut words = packing::words_room();
+    packing::unpack(job, &mut words[..end]);
+    answers_words(&words[..end], out)
 }

@@ -1,22 +1,24 @@
-// The exported check: 14 for the three lengths, then the word call on what the bytes hold.
+// The exported check: 14 for the three lengths, then the word call on what the bytes hold (RULES 8).
 ghost use mathlib.Core.Path.{_≡_};
-ghost use Prim.Native.Nat.{_*_, _≤_};
+ghost use Prim.Native.Nat.{_≤_};
 ghost use lib.ListN.{length};
-ghost use Rattle.outcome.specs.Verdict.{Accepted, outcome, _andThen_};
+ghost use Rattle.outcome.specs.Verdict.{Accepted};
 ghost use Rattle.packing.specs.Packing.{unpacked};
-ghost use Rattle.circuit.specs.Reader.{circuitVerdict};
-ghost use Rattle.qap.specs.Answers.{AnswersAgree};
-ghost use Rattle.qap.specs.Calls.{Judged};
 ghost use Rattle.job_file.specs.File.{sizeVerdict};
-ghost use Rattle.rowprover.specs.Exports.{queryPoint, queryAnswers, CheckWords, checkBytesVerdict};
+ghost use Rattle.rowprover.specs.Exports.{queryBytes, mostSectionBytes, sizesVerdict, CheckWords, CheckBytes};
 use outcome::Outcome;
+use outcome::require;
 use qap::FourAnswers;
 
-// Bytes of the longest public section: 256 values and their count.
-const MOST_SECTION: usize = 1028;
+// Bytes of a query: the point and the four answers (RULES 8).
+const QUERY_BYTES: usize = 20;
 
+// Bytes of the longest public section: 256 values and their count (RULES 3).
+const MOST_SECTION_BYTES: usize = 1028;
+
+// The word call on the words of the query.
 fn check_words(circuit: &[u32], section: &[u32], query: &[u8]) -> Outcome
-    requires { ⌜ length (now query) ≡ 20 ⌝ }
+    requires { ⌜ length (now query) ≡ queryBytes ⌝ }
     ensures { λ o. ⌜ CheckWords (now (circuit .entry)) (now (section .entry)) (unpacked (now (query .entry))) o ⌝ }
 {
     let r = FourAnswers {
@@ -28,88 +30,48 @@ fn check_words(circuit: &[u32], section: &[u32], query: &[u8]) -> Outcome
     answer_check::check_answers(circuit, section, packing::word_at(query, 0), r)
 }
 
-fn section_lent(circuit: &[u32], section: &[u8], query: &[u8], words: &mut [u32]) -> Outcome
-    requires { ⌜ (length (now section) ≡ 4 * length (now words)) × (length (now query) ≡ 20) ⌝ }
-    ensures { λ o. ⌜ CheckWords (now (circuit .entry)) (unpacked (now (section .entry))) (unpacked (now (query .entry))) o ⌝ }
-{
-    packing::unpack(section, words);
-    check_words(circuit, words, query)
-}
-
-fn section_cut(circuit: &[u32], section: &[u8], query: &[u8], words: &mut [u32]) -> Outcome
-    requires { ⌜ Accepted (sizeVerdict (length (now section))) × (length (now section) ≤ 1028) × (length (now query) ≡ 20) × (257 ≤ length (now words)) ⌝ }
+// The words of a section that a circuit may ask for.
+fn check_section(circuit: &[u32], section: &[u8], query: &[u8]) -> Outcome
+    requires { ⌜ Accepted (sizeVerdict (length (now section))) × (length (now section) ≤ mostSectionBytes) × (length (now query) ≡ queryBytes) ⌝ }
     ensures { λ o. ⌜ CheckWords (now (circuit .entry)) (unpacked (now (section .entry))) (unpacked (now (query .entry))) o ⌝ }
 {
     let end = section.len() / 4;
-    section_lent(circuit, section, query, &mut words[..end])
-}
-
-fn check_section(circuit: &[u32], section: &[u8], query: &[u8]) -> Outcome
-    requires { ⌜ Accepted (sizeVerdict (length (now section))) × (length (now section) ≤ 1028) × (length (now query) ≡ 20) ⌝ }
-    ensures { λ o. ⌜ CheckWords (now (circuit .entry)) (unpacked (now (section .entry))) (unpacked (now (query .entry))) o ⌝ }
-{
-    let mut words = [0u32; 257];
-    section_cut(circuit, section, query, &mut words)
+    let mut words = slices::room();
+    packing::unpack(section, &mut words[..end]);
+    check_words(circuit, &words[..end], query)
 }
 
 // A section with more words than any circuit asks for is not read: a circuit that is accepted refuses it by 6.
-fn long_section(circuit: &[u32]) -> Outcome
-    ensures { λ o. ⌜ o ≡ circuitVerdict (now (circuit .entry)) andThen outcome 6 0 ⌝ }
+fn check_circuit(circuit: &[u32], section: &[u8], query: &[u8]) -> Outcome
+    requires { ⌜ Accepted (sizeVerdict (length (now section))) × (length (now query) ≡ queryBytes) ⌝ }
+    ensures { λ o. ⌜ CheckWords (now (circuit .entry)) (unpacked (now (section .entry))) (unpacked (now (query .entry))) o ⌝ }
 {
-    let read = reader::circuit_verdict(circuit);
-    if read.number != 0 {
-        return read;
+    let short = require(section.len() <= MOST_SECTION_BYTES, 6, 0);
+    if short.number != 0 {
+        return reader::circuit_verdict(circuit).and_then(short);
     }
-    Outcome {
-        number: 6,
-        place: 0,
-    }
+    check_section(circuit, section, query)
 }
 
-fn check_lent(circuit: &[u8], section: &[u8], query: &[u8], words: &mut [u32]) -> Outcome
-    requires { ⌜ (length (now circuit) ≡ 4 * length (now words)) × Accepted (sizeVerdict (length (now section))) × (length (now query) ≡ 20) ⌝ }
-    ensures { λ o. ⌜ CheckWords (unpacked (now (circuit .entry))) (unpacked (now (section .entry))) (unpacked (now (query .entry))) o ⌝ }
+// 14 for the lengths.
+fn sizes_verdict(circuit: usize, section: usize, query: usize) -> Outcome
+    ensures { λ o. ⌜ o ≡ sizesVerdict circuit section query ⌝ }
 {
-    packing::unpack(circuit, words);
-    if MOST_SECTION < section.len() {
-        return long_section(words);
-    }
-    check_section(words, section, query)
+    job_file::size_verdict(circuit)
+        .and_then(job_file::size_verdict(section))
+        .and_then(require(query == QUERY_BYTES, 14, 0))
 }
 
-fn check_cut(circuit: &[u8], section: &[u8], query: &[u8], words: &mut [u32]) -> Outcome
-    requires { ⌜ Accepted (sizeVerdict (length (now circuit))) × Accepted (sizeVerdict (length (now section))) × (length (now query) ≡ 20) × (9486 ≤ length (now words)) ⌝ }
-    ensures { λ o. ⌜ CheckWords (unpacked (now (circuit .entry))) (unpacked (now (section .entry))) (unpacked (now (query .entry))) o ⌝ }
-{
-    let end = circuit.len() / 4;
-    check_lent(circuit, section, query, &mut words[..end])
-}
-
-fn check_sized(circuit: &[u8], section: &[u8], query: &[u8]) -> Outcome
-    requires { ⌜ Accepted (sizeVerdict (length (now circuit))) × Accepted (sizeVerdict (length (now section))) × (length (now query) ≡ 20) ⌝ }
-    ensures { λ o. ⌜ CheckWords (unpacked (now (circuit .entry))) (unpacked (now (section .entry))) (unpacked (now (query .entry))) o ⌝ }
-{
-    let mut words = [0u32; 9486];
-    check_cut(circuit, section, query, &mut words)
-}
-
-// 14 first.
+// 14 first, then the circuit's words.
 pub fn check_bytes(circuit: &[u8], section: &[u8], query: &[u8]) -> Outcome
-    ensures { λ o. ⌜ Judged (checkBytesVerdict (now (circuit .entry)) (now (section .entry)) (now (query .entry))) (AnswersAgree (unpacked (now (circuit .entry))) (unpacked (now (section .entry))) (queryPoint (unpacked (now (query .entry)))) (queryAnswers (unpacked (now (query .entry))))) o ⌝ }
+    ensures { λ o. ⌜ CheckBytes (now (circuit .entry)) (now (section .entry)) (now (query .entry)) o ⌝ }
 {
-    let first = job_file::size_verdict(circuit.len());
-    if first.number != 0 {
-        return first;
+    let sized = sizes_verdict(circuit.len(), section.len(), query.len());
+    if sized.number != 0 {
+        return sized;
     }
-    let second = job_file::size_verdict(section.len());
-    if second.number != 0 {
-        return second;
-    }
-    if query.len() != 20 {
-        return Outcome {
-            number: 14,
-            place: 0,
-        };
-    }
-    check_sized(circuit, section, query)
+    let end = circuit.len() / 4;
+    let mut words = packing::words_room();
+    packing::unpack(circuit, &mut words[..end]);
+    check_circuit(&words[..end], section, query)
 }

@@ -3,7 +3,7 @@
 use mathlib.Core.Bool.{true, false}
 use mathlib.Core.List.{List, [], _∷_, _++_}
 use mathlib.Core.Path.{_≡_}
-use Prim.Native.Nat.{ℕ, zero, suc, _+_, _/_, _%_, _≤_}
+use Prim.Native.Nat.{ℕ, zero, suc, _+_, _*_, _/_, _%_, _≤_}
 use lib.Dec.{ltb}
 use lib.ListN.{take, drop}
 
@@ -21,6 +21,18 @@ unfoldable pub line : List ℕ → List ℕ
 line [] = 10 ∷ []
 line (w ∷ []) = decimal w ++ (10 ∷ [])
 line (w ∷ v ∷ ws) = decimal w ++ 32 ∷ line (v ∷ ws)
+
+-- bytes that are enough for a number of 64 bits, which has at most 20 digits, and the byte behind it
+abbrev pub numberRoom : ℕ
+numberRoom = 21
+
+-- for a line of two
+abbrev pub twoRoom : ℕ
+twoRoom = 2 * numberRoom
+
+-- for a line of as many as `count`
+abbrev pub lineRoom : ℕ → ℕ
+lineRoom count = numberRoom * count + 1
 
 -- the bytes from `end` on are as they were
 pub record Kept (before after : List ℕ) (end : ℕ) : Type 0 where

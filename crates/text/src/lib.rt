@@ -1,9 +1,9 @@
 // Numbers as lines of text: RULES 7. The text goes into lent bytes, from `at` on; a call gives the
 // index behind what it wrote, where the next call goes on.
 ghost use mathlib.Core.List.{[], _∷_, _++_};
-ghost use Prim.Native.Nat.{_+_, _*_, _≤_};
+ghost use Prim.Native.Nat.{_+_, _≤_};
 ghost use lib.ListN.{length};
-ghost use Rattle.text.specs.Text.{decimal, line, Appended};
+ghost use Rattle.text.specs.Text.{decimal, line, numberRoom, lineRoom, twoRoom, Appended};
 
 fn put_decimal(n: usize, text: &mut [u8], at: usize) -> usize
     requires { ⌜ at + length (decimal n) ≤ length (now text) ⌝ }
@@ -20,8 +20,8 @@ fn put_decimal(n: usize, text: &mut [u8], at: usize) -> usize
 
 // A number and the byte behind it.
 fn put_number(n: usize, mark: u8, text: &mut [u8], at: usize) -> usize
-    requires { ⌜ at + 21 ≤ length (now text) ⌝ }
-    ensures { λ r. ⌜ Appended (now (text .entry)) at (decimal n ++ (mark ∷ [])) 21 (now (text .exit)) r ⌝ }
+    requires { ⌜ at + numberRoom ≤ length (now text) ⌝ }
+    ensures { λ r. ⌜ Appended (now (text .entry)) at (decimal n ++ (mark ∷ [])) numberRoom (now (text .exit)) r ⌝ }
 {
     let end = put_decimal(n, text, at);
     text[end] = mark;
@@ -29,8 +29,8 @@ fn put_number(n: usize, mark: u8, text: &mut [u8], at: usize) -> usize
 }
 
 pub fn put_line(words: &[u32], text: &mut [u8], at: usize) -> usize
-    requires { ⌜ at + 21 * length (now words) + 1 ≤ length (now text) ⌝ }
-    ensures { λ r. ⌜ Appended (now (text .entry)) at (line (now (words .entry))) (21 * length (now (words .entry)) + 1) (now (text .exit)) r ⌝ }
+    requires { ⌜ at + lineRoom (length (now words)) ≤ length (now text) ⌝ }
+    ensures { λ r. ⌜ Appended (now (text .entry)) at (line (now (words .entry))) (lineRoom (length (now (words .entry)))) (now (text .exit)) r ⌝ }
 {
     let mut end = at;
     let mut i = 0;
@@ -47,8 +47,8 @@ pub fn put_line(words: &[u32], text: &mut [u8], at: usize) -> usize
 
 // The line of two numbers: a number and a place.
 pub fn put_two(a: usize, b: usize, text: &mut [u8], at: usize) -> usize
-    requires { ⌜ at + 42 ≤ length (now text) ⌝ }
-    ensures { λ r. ⌜ Appended (now (text .entry)) at (line (a ∷ b ∷ [])) 42 (now (text .exit)) r ⌝ }
+    requires { ⌜ at + twoRoom ≤ length (now text) ⌝ }
+    ensures { λ r. ⌜ Appended (now (text .entry)) at (line (a ∷ b ∷ [])) twoRoom (now (text .exit)) r ⌝ }
 {
     let end = put_number(a, b' ', text, at);
     put_number(b, b'\n', text, end)

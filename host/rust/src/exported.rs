@@ -7,7 +7,7 @@ use crate::refusal::{integer, need, Verdict};
 use crate::words;
 
 pub const OUT_BYTES: usize = 16;
-pub const QUERY_BYTES: usize = 20;
+const QUERY_BYTES: usize = 20;
 
 /// The four answers of a job as 16 bytes: refused as the program does, with 8 between 11 and 10.
 pub fn answers(job: &[u8], out: &mut [u8]) -> u64 {

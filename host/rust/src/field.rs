@@ -14,7 +14,7 @@ pub fn mul(a: u64, b: u64) -> u64 {
     a * b % P
 }
 
-pub fn power(base: u64, mut exponent: u64) -> u64 {
+fn power(base: u64, mut exponent: u64) -> u64 {
     let (mut result, mut square) = (1, base);
     while exponent > 0 {
         if exponent % 2 == 1 {

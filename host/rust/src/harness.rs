@@ -3,36 +3,11 @@
 
 use crate::exported;
 use crate::jobs::cases::Case;
-use crate::linear;
 
 /// Something with the two exported functions of the rules. `Err` says why there is no result that counts.
 pub trait Exports {
     fn answers(&mut self, job: &[u8], out: &mut [u8]) -> Result<u64, String>;
     fn check(&mut self, circuit: &[u8], public: &[u8], query: &[u8]) -> Result<u64, String>;
-}
-
-/// The plain second program.
-pub struct Second;
-
-impl Exports for Second {
-    fn answers(&mut self, job: &[u8], out: &mut [u8]) -> Result<u64, String> {
-        Ok(exported::answers(job, out))
-    }
-    fn check(&mut self, circuit: &[u8], public: &[u8], query: &[u8]) -> Result<u64, String> {
-        Ok(exported::check(circuit, public, query))
-    }
-}
-
-/// The best-known method.
-pub struct Linear;
-
-impl Exports for Linear {
-    fn answers(&mut self, job: &[u8], out: &mut [u8]) -> Result<u64, String> {
-        Ok(linear::answers(job, out))
-    }
-    fn check(&mut self, circuit: &[u8], public: &[u8], query: &[u8]) -> Result<u64, String> {
-        Ok(linear::check(circuit, public, query))
-    }
 }
 
 /// Bytes lent to a call, with known bytes before and behind; they begin at an odd address, since nothing may

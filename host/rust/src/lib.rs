@@ -2,9 +2,8 @@
 //! the product is compared with, so it is written to be read, and shares no code with it.
 //!
 //! Bottom up: `field`, `poly`, `qap` are the mathematics; `refusal`, `circuit`, `assignment` read words;
-//! `calls`, `job`, `exported` are the rules' calls, program and exported functions. `linear` is the
-//! best-known method for the two exported functions, for benchmarks. `jobs` makes inputs, `harness` compares,
-//! `served` calls the product's two functions in a process of their own.
+//! `calls`, `job`, `exported` are the rules' calls, program and exported functions. `jobs` makes inputs,
+//! `harness` compares, `served` calls the product's two functions in a process of their own.
 
 pub mod assignment;
 pub mod calls;
@@ -14,7 +13,6 @@ pub mod field;
 pub mod harness;
 pub mod job;
 pub mod jobs;
-pub mod linear;
 pub mod poly;
 pub mod qap;
 pub mod refusal;

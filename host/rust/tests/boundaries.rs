@@ -157,9 +157,10 @@ fn look_at_check(slices: [&[u8]; 3], seen: &mut Seen) {
     }
 }
 
-fn seen_by(indices: impl Iterator<Item = u64>) -> Seen {
+/// What the cases from index `first` on show, every second one: 0 for answers, 1 for check.
+fn seen_from(first: u64) -> Seen {
     let mut seen = Seen::new();
-    for index in indices {
+    for index in (first..8_000).step_by(2) {
         match case(1, index) {
             Case::Answers { job, out_len } => look_at_answers(&job, out_len, &mut seen),
             Case::Check { circuit, public, query } => {
@@ -170,8 +171,10 @@ fn seen_by(indices: impl Iterator<Item = u64>) -> Seen {
     seen
 }
 
-fn assert_all(seen: &Seen, wanted: &[&str]) {
-    let missing: Vec<_> = wanted.iter().filter(|name| !seen.contains(**name)).collect();
+/// Is all of this seen: what both functions share, and what is this one's own?
+fn assert_all(seen: &Seen, own: &[&str]) {
+    let wanted = IN_CIRCUIT.iter().chain(&IN_SECTIONS).chain(own);
+    let missing: Vec<_> = wanted.filter(|name| !seen.contains(**name)).collect();
     assert!(missing.is_empty(), "never: {missing:?}\nseen: {seen:#?}");
 }
 
@@ -230,9 +233,7 @@ const IN_SECTIONS: [&str; 10] = [
 
 #[test]
 fn of_answers() {
-    let seen = seen_by((0..8_000).step_by(2));
-    assert_all(&seen, &IN_CIRCUIT);
-    assert_all(&seen, &IN_SECTIONS);
+    let seen = seen_from(0);
     let own = [
         "length not in words",
         "length 37948",
@@ -264,9 +265,6 @@ fn of_answers() {
 
 #[test]
 fn of_check() {
-    let seen = seen_by((1..8_000).step_by(2));
-    assert_all(&seen, &IN_CIRCUIT);
-    assert_all(&seen, &IN_SECTIONS);
     let own = [
         "lengths [true, false, false] [false, false]",
         "lengths [false, true, false] [false, false]",
@@ -285,5 +283,5 @@ fn of_check() {
         "answer 3 max",
         "rejected",
     ];
-    assert_all(&seen, &own);
+    assert_all(&seen_from(1), &own);
 }

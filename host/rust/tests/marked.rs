@@ -1,16 +1,12 @@
 //! The rules' printed examples: marked lines a to m, job J with its five lines, and the run-only lines.
 
 use second::calls::*;
+use second::jobs::printed::{J, K, K1, W};
 use second::refusal::{number_and_place, refuse};
 use second::{assignment, job, words};
 
-const K: [u32; 27] = [2, 2, 4, 2, 1, 3, 1, 2, 4, 1, 3, 1, 3, 1, 2, 1, 2, 2, 3, 1, 2, 1, 4, 1, 2, 2, 1];
-const K1: [u32; 15] = [1, 1, 2, 1, 1, 2, 1, 2, 1, 1, 2013265920, 1, 2, 1, 0];
-const W: [u32; 6] = [2, 1, 45, 2, 3, 9];
-const TAIL: [u32; 6] = [3, 1, 2, 3, 1, 3];
-
 fn j() -> Vec<u8> {
-    words::to_bytes(&[&K[..], &W, &TAIL].concat())
+    words::to_bytes(&J.job_words())
 }
 
 #[test]

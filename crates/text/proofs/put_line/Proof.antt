@@ -1,18 +1,18 @@
--- Invariant: the text so far, with the line of the words left, is the whole text; the bytes behind are kept; each word left has 21 bytes of room.
+-- Invariant: the text so far, with the line of the words left, is the whole text; the bytes behind are kept; each word left has its room.
 use mathlib.Core.List.{_++_, append-assoc}
 use mathlib.Core.Path.{_≡_}
 use Prim.Native.Nat.{_+_, _-_, _*_, _≤_}
 use native.Mathlib.Omega.{arith}
 use borrow.Author.Needs.{needs}
 use lib.ListN.{length, take, drop}
-use Rattle.text.specs.Text.{line, Kept}
+use Rattle.text.specs.Text.{numberRoom, line, Kept}
 use Rattle.text.proofs.TextLaws.{line-more, line-last, line-none, then-byte, nothing, still-kept}
 use Rattle.text.proofs.put_line.Statement.{statement}
 use Rattle.text.proofs.put_line.Tie as tie
 
 abbrev Inv-loop : tie.InvT-loop
 Inv-loop words text₀ at end₀ i₀ text end i =
-    (i ≤ length words) × (length text ≡ length text₀) × (end + 21 * (length words - i) ≤ at + 21 * length words)
+    (i ≤ length words) × (length text ≡ length text₀) × (end + numberRoom * (length words - i) ≤ at + numberRoom * length words)
     × (take end text ++ line (drop i words) ≡ take at text₀ ++ line words) × (at ≤ end) × Kept text₀ text end
 
 abbrev μ-loop : tie.MeasureT-loop

@@ -5,6 +5,7 @@ pub mod calls;
 pub mod cases;
 pub mod chance;
 pub mod damage;
+pub mod printed;
 pub mod sketch;
 pub mod systematic;
 pub mod valid;

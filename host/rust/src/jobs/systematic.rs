@@ -2,30 +2,14 @@
 
 use super::cases::Case;
 use super::damage::EDGE_WORDS;
+use super::printed::{Printed, J, J1};
 use crate::exported::OUT_BYTES;
 use crate::words::to_bytes;
 
-/// The rules' input J, and a job over its circuit K1 (one row, q = 1, an empty section C).
-const JOBS: [&[u32]; 2] = [
-    &[
-        2, 2, 4, 2, 1, 3, 1, 2, 4, 1, 3, 1, 3, 1, 2, 1, 2, 2, 3, 1, 2, 1, 4, 1, 2, 2, 1, 2, 1, 45, 2, 3, 9,
-        3, 1, 2, 3, 1, 3,
-    ],
-    &[1, 1, 2, 1, 1, 2, 1, 2, 1, 1, 2013265920, 1, 2, 1, 0, 1, 1, 1, 1, 3, 1, 1, 0, 1, 5],
-];
-
-/// The same two as check inputs: circuit, public section, point and answers.
-const CHECKS: [[&[u32]; 3]; 2] = [
-    [
-        &[2, 2, 4, 2, 1, 3, 1, 2, 4, 1, 3, 1, 3, 1, 2, 1, 2, 2, 3, 1, 2, 1, 4, 1, 2, 2, 1],
-        &[2, 1, 45],
-        &[3, 17, 7, 2013265918, 50],
-    ],
-    [&[1, 1, 2, 1, 1, 2, 1, 2, 1, 1, 2013265920, 1, 2, 1, 0], &[1, 1], &[5, 5, 5, 0, 5]],
-];
+const SMALL: [Printed; 2] = [J, J1];
 
 pub fn jobs() -> Vec<Vec<u8>> {
-    JOBS.iter().flat_map(|words| variants(words)).collect()
+    SMALL.iter().flat_map(|small| variants(&small.job_words())).collect()
 }
 
 pub fn cases() -> Vec<Case> {
@@ -34,7 +18,8 @@ pub fn cases() -> Vec<Case> {
         cases.push(Case::Answers { job: job.clone(), out_len: OUT_BYTES });
         cases.push(Case::Answers { job, out_len: OUT_BYTES + 1 });
     }
-    for slices in CHECKS {
+    for small in SMALL {
+        let slices = [small.circuit, small.public(), small.query];
         let [circuit, public, query] = slices.map(to_bytes);
         for (at, words) in slices.iter().enumerate() {
             for variant in variants(words) {

@@ -12,7 +12,7 @@ use Rattle.qap.proofs.Settings.{exact-length}
 use Rattle.qap.proofs.Filling.{filled-refused}
 use Rattle.job_file.specs.File.{fileVerdict}
 use Rattle.job_file.proofs.FileLaws.{file-ready, file-answers-ready, Lent, lent}
-use Rattle.rowprover.specs.Exports.{wordsThenSize}
+use Rattle.rowprover.specs.Exports.{answersBytes, wordsThenSize}
 use Rattle.rowprover.proofs.answering.answers_words.Statement.{statement}
 use Rattle.rowprover.proofs.answering.answers_words.Tie as tie
 
@@ -22,7 +22,7 @@ accepted c = is-accepted (c .before .before .before .read .ensures .number-and-p
 parts : (c : tie.Else1) → Lent (c .before .before .before .before .before .before .args .words .now) (c .before .before .before .read .result)
 parts c = let all = accepted c in lent all (c .before .before .before .read .ensures .parted all)
 
-sized : (c : tie.Else2) → Accepted (lengthVerdict (length (c .before .before .before .before .before .before .before .before .before .args .out .now)) 16)
+sized : (c : tie.Else2) → Accepted (lengthVerdict (length (c .before .before .before .before .before .before .before .before .before .args .out .now)) answersBytes)
 sized c = is-accepted (c .before .before .length-verdict .ensures) (c .if2 .left)
 
 returns : tie.Need-returns
@@ -44,7 +44,7 @@ requires c κs =
     let l = parts past in
     let all = accepted past in
     let p = past .before .before .before .read .ensures .parted all in
-    rw (l .circuit, l .assignment, p .blinders, p .point) (file-answers-ready _ all, file-ready _ all .point, exact-length _ 16 (sized sizing))
+    rw (l .circuit, l .assignment, p .blinders, p .point) (file-answers-ready _ all, file-ready _ all .point, exact-length _ answersBytes (sized sizing))
 
 returns-3 : tie.Need-returns-3
 unfolding wordsThenSize

@@ -1,7 +1,4 @@
 -- Each word read is the one that the bytes unpack to.
-use mathlib.Core.List.{List}
-use mathlib.Core.Path.{_≡_, sym, _∙_}
-use Prim.Native.Nat.{ℕ, _+_, _*_, _≤_}
 use native.Mathlib.Omega.{arith}
 use borrow.Author.Needs.{needs}
 use Rattle.packing.proofs.PackingLaws.{word-unpacked}
