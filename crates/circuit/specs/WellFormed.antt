@@ -32,6 +32,12 @@ pub record Formed (c : List ℕ) : Type 0 where
   pub public-count : Within 1 (publics c) (columns c)
   pub matrices : (matrix : ℕ) → matrix < 3 → SectionFormed c (section c matrix)
 
+-- matrix 0, 1 or 2 of a circuit, and a list with a word for each of its rows
+pub record RowWords (c : List ℕ) (matrix : ℕ) (f : List ℕ) : Type 0 where
+  pub circuit : Formed c
+  pub of-three : matrix < 3
+  pub size : length f ≡ rows c
+
 -- words that are a circuit
 pub record WellFormed (c : List ℕ) : Type 0 where
   pub formed : Formed c
