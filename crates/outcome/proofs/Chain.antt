@@ -2,7 +2,7 @@
 -- passed or failed. `search chain` walks down the checks by the facts that the branches left.
 -- RULES 6.
 use mathlib.Core.Bool.{Bool, true, false, not, _&&_}
-use mathlib.Core.Path.{_≡_, refl, sym, _∙_}
+use mathlib.Core.Path.{_≡_, refl, sym, _∙_, ap}
 use Prim.Native.Nat.{ℕ, _<_, _≤_}
 use borrow.Author.Tests.{le-leb, lt-leb, le-ltb, eq-eqb, ne-eqb}
 use lib.Dec.{T, leb, ltb, eqb, lit<}
@@ -82,6 +82,12 @@ called {rest = rest} e h k = k ∙ sym (goes-on rest (is-accepted e h))
 -- where it is one check that passed, its test is true
 pub tested : {d : Outcome} {t : Bool} (number place : ℕ) → d ≡ require t number place → T (ltb 0 number) → d .number ≡ 0 → t ≡ true
 tested {t = t} number place e l h = require-accepted t number place (lit< l) (is-accepted e h)
+
+-- where it failed, its test is false, and it is the number and place
+pub tested-not : {d : Outcome} (t : Bool) (number place : ℕ) → d ≡ require t number place → (d .number ≡ 0 → ⊥) →
+    (t ≡ false) × (d ≡ outcome number place)
+tested-not true number place e h = absurd (h (ap (λ (o : Outcome). o .number) (e ∙ passes number place refl)))
+tested-not false number place e h = (refl, e ∙ fails number place refl)
 
 pub called-refused : {a d : Outcome} (rest : Outcome) → d ≡ a → (d .number ≡ 0 → ⊥) → d ≡ a andThen rest
 called-refused rest e h = e ∙ sym (stops rest (is-refused e h))
