@@ -43,12 +43,8 @@ publicVerdict p c a =
     andThen valuesVerdict p a
 
 -- what a call says of both lists: the circuit comes first
-
 unfoldable pub circuitThenAssignment : ℕ → List ℕ → List ℕ → Outcome
 circuitThenAssignment p c a = circuitVerdict p c andThen assignmentVerdict p c a
-
-unfoldable pub circuitThenPublic : ℕ → List ℕ → List ℕ → Outcome
-circuitThenPublic p c a = circuitVerdict p c andThen publicVerdict p c a
 
 -- the public section handed out: the first q + 1 words, or none where circuit or assignment would be refused
 unfoldable pub publicSection : ℕ → List ℕ → List ℕ → List ℕ

@@ -3,6 +3,7 @@ use mathlib.Core.List.{List}
 use Prim.Native.Nat.{ℕ, _≤_}
 use native.Mathlib.Omega.{arith}
 use Rattle.outcome.specs.Verdict.{Within}
+use Rattle.circuit.specs.Limits.{mostRows}
 use Rattle.circuit.specs.Circuit.{listedRows, rows, rowOf}
 use Rattle.circuit.specs.WellFormed.{EntryFormed, Formed}
 
@@ -10,7 +11,7 @@ pub listed-rows : (c : List ℕ) → listedRows c ≤ rows c
 unfolding rows
 listed-rows c = omega arith
 
-pub row-range : {p : ℕ} {c : List ℕ} → Formed p c → Within 1 (rows c) 256
+pub row-range : {p : ℕ} {c : List ℕ} → Formed p c → Within 1 (rows c) mostRows
 unfolding rows
 row-range formed = formed .row-count
 
