@@ -4,13 +4,14 @@ ghost use Prim.Native.Nat.{_+_, _≤_};
 ghost use lib.ListN.{length};
 ghost use Rattle.circuit.specs.Circuit.{entryAt};
 ghost use Rattle.circuit.specs.Reader.{rangesVerdict, entryVerdict};
+ghost use Rattle.field.specs.Field.{p};
 use outcome::Outcome;
 use outcome::require;
 use outcome::within;
 
 // Row and column by 3, then the value by 4.
 fn ranges_verdict(m: u32, n: u32, row: u32, column: u32, value: u32, at: usize) -> Outcome
-    ensures { λ r. ⌜ r ≡ rangesVerdict m n row column value at ⌝ }
+    ensures { λ r. ⌜ r ≡ rangesVerdict p m n row column value at ⌝ }
 {
     require(within(1, row, m), 3, at)
         .and_then(require(within(1, column, n), 3, at))
@@ -46,7 +47,7 @@ fn ascends(words: &[u32], start: usize, e: usize) -> bool
 // The same entry by 3, 4, 5.
 pub fn entry_verdict(words: &[u32], start: usize, e: usize) -> Outcome
     requires { ⌜ (3 ≤ length (now words)) × (entryAt start e + 3 ≤ length (now words)) ⌝ }
-    ensures { λ r. ⌜ r ≡ entryVerdict (now (words .entry)) start e ⌝ }
+    ensures { λ r. ⌜ r ≡ entryVerdict p (now (words .entry)) start e ⌝ }
 {
     let at = start + 1 + 3 * e;
     ranges_verdict(

@@ -6,6 +6,7 @@ ghost use Rattle.outcome.specs.Verdict.{firstFault};
 ghost use Rattle.circuit.specs.Circuit.{section};
 ghost use Rattle.circuit.specs.Reader.{sectionVerdict, countsVerdict, prefixVerdict, circuitVerdict};
 ghost use Rattle.circuit.specs.WellFormed.{Formed};
+ghost use Rattle.field.specs.Field.{p};
 use circuit::limits::MATRICES;
 use circuit::limits::MOST_COLUMNS;
 use circuit::limits::MOST_ENTRIES;
@@ -20,7 +21,7 @@ mod entry;
 // Sections A, B, C from index 3 on. Both loops are left at the first fault met.
 fn sections_verdict(words: &[u32]) -> Outcome
     requires { ⌜ 3 ≤ length (now words) ⌝ }
-    ensures { λ r. ⌜ r ≡ firstFault (λ matrix. sectionVerdict (now (words .entry)) (section (now (words .entry)) matrix)) 3 ⌝ }
+    ensures { λ r. ⌜ r ≡ firstFault (λ matrix. sectionVerdict p (now (words .entry)) (section (now (words .entry)) matrix)) 3 ⌝ }
 {
     let size = words.len();
     let mut matrix: usize = 0;
@@ -64,7 +65,7 @@ fn counts_verdict(m: u32, q: u32, n: u32) -> Outcome
 
 // Words that begin with a circuit; what follows it is the caller's to judge.
 pub fn prefix_verdict(words: &[u32]) -> Outcome
-    ensures { λ r. ⌜ r ≡ prefixVerdict (now (words .entry)) ⌝ }
+    ensures { λ r. ⌜ r ≡ prefixVerdict p (now (words .entry)) ⌝ }
 {
     let counted = require(3 <= words.len(), 1, words.len());
     if counted.number != 0 {
@@ -75,7 +76,7 @@ pub fn prefix_verdict(words: &[u32]) -> Outcome
 
 // The index of the count of entries of matrix 0, 1 or 2; for 3 the index where the circuit ends.
 pub fn section_start(words: &[u32], matrix: usize) -> usize
-    requires { ⌜ Formed (now words) × (matrix ≤ 3) ⌝ }
+    requires { ⌜ Formed p (now words) × (matrix ≤ 3) ⌝ }
     ensures { λ r. ⌜ r ≡ section (now (words .entry)) matrix ⌝ }
 {
     let mut start = 3;
@@ -90,7 +91,7 @@ pub fn section_start(words: &[u32], matrix: usize) -> usize
 
 // Words that are a circuit and nothing else.
 pub fn circuit_verdict(words: &[u32]) -> Outcome
-    ensures { λ r. ⌜ r ≡ circuitVerdict (now (words .entry)) ⌝ }
+    ensures { λ r. ⌜ r ≡ circuitVerdict p (now (words .entry)) ⌝ }
 {
     let begun = prefix_verdict(words);
     if begun.number != 0 {

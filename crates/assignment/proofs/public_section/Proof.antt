@@ -4,6 +4,8 @@ use lib.Seq.{length-take-le}
 use native.Mathlib.Omega.{arith}
 use Rattle.outcome.proofs.Verdict.{is-accepted, is-refused, accepted-new, refused-old}
 use Rattle.circuit.specs.WellFormed.{WellFormed}
+use Rattle.field.specs.Field.{p}
+use Rattle.field.proofs.PrimeField.{field-prime}
 use Rattle.assignment.specs.Assignment.{publicSection}
 use Rattle.assignment.specs.WellFormed.{AssignmentFormed}
 use Rattle.assignment.proofs.Accepted.{both-formed}
@@ -12,8 +14,8 @@ use Rattle.assignment.proofs.public_section.Statement.{statement}
 use Rattle.assignment.proofs.public_section.Tie as tie
 
 formed : (c : tie.Else1) → let args = c .before .before .before .before .before .args in
-    WellFormed (args .circuit .now) × AssignmentFormed (args .circuit .now) (args .values .now)
-formed c = both-formed _ _ (is-accepted (c .before .before .assignment-verdict .ensures) (c .if1 .left))
+    WellFormed p (args .circuit .now) × AssignmentFormed p (args .circuit .now) (args .values .now)
+formed c = both-formed field-prime _ _ (is-accepted (c .before .before .assignment-verdict .ensures) (c .if1 .left))
 
 returns : tie.Need-returns
 unfolding publicSection

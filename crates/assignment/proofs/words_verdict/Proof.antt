@@ -6,13 +6,14 @@ use borrow.Author.Needs.{needs}
 use lib.ListN.{length}
 use Rattle.outcome.proofs.Verdict.{is-accepted, is-refused, proper-require}
 use Rattle.outcome.proofs.Scan.{Passed, begin, go-on, stop, end}
+use Rattle.field.specs.Field.{p}
 use Rattle.assignment.specs.Assignment.{wordsVerdict}
 use Rattle.assignment.proofs.Accepted.{each}
 use Rattle.assignment.proofs.words_verdict.Statement.{statement}
 use Rattle.assignment.proofs.words_verdict.Tie as tie
 
 record Words (number from : ℕ) (a : List ℕ) (i : ℕ) : Type 0 where
-  passed : Passed (each number from a) (length a) i
+  passed : Passed (each p number from a) (length a) i
 
 abbrev Inv-loop : tie.InvT-loop
 Inv-loop words number from i₀ i = Words number from words i

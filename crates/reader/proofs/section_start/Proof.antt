@@ -8,6 +8,7 @@ use borrow.Author.Needs.{needs}
 use Rattle.circuit.specs.Circuit.{section}
 use Rattle.circuit.specs.WellFormed.{SectionFormed}
 use Rattle.circuit.proofs.Sections.{section-next}
+use Rattle.field.specs.Field.{p}
 use Rattle.reader.proofs.section_start.Statement.{statement}
 use Rattle.reader.proofs.section_start.Tie as tie
 
@@ -21,7 +22,7 @@ Inv-loop words matrix start₀ k₀ start k = Begins words matrix start k
 abbrev μ-loop : tie.MeasureT-loop
 μ-loop words matrix start₀ k₀ start k = matrix - k
 
-formed : (c : tie.In-loop Inv-loop μ-loop) → SectionFormed (c .before .before .args .words .now) (c .before .loop .start)
+formed : (c : tie.In-loop Inv-loop μ-loop) → SectionFormed p (c .before .before .args .words .now) (c .before .loop .start)
 formed c =
     let entry = c .before .before in
     rw (c .before .loop .inv .here) (entry .pre .0 .matrices (c .before .loop .k) (search needs))

@@ -20,12 +20,13 @@ use Rattle.circuit.specs.WellFormed.{SectionFormed}
 use Rattle.circuit.proofs.Sections.{first-section, section-next}
 use Rattle.circuit.proofs.Formed.{section-accepted, entry-formed}
 use Rattle.circuit.proofs.Proper.{proper-section}
+use Rattle.field.specs.Field.{p}
 use Rattle.reader.proofs.sections_verdict.Statement.{statement}
 use Rattle.reader.proofs.sections_verdict.Tie as tie
 
 -- the verdicts of the sections
 abbrev each : List ℕ → ℕ → Outcome
-each c matrix = sectionVerdict c (section c matrix)
+each c matrix = sectionVerdict p c (section c matrix)
 
 record Sections (c : List ℕ) (matrix start : ℕ) : Type 0 where
   passed : Passed (each c) 3 matrix
@@ -33,7 +34,7 @@ record Sections (c : List ℕ) (matrix start : ℕ) : Type 0 where
   small : start ≤ 3 + (1 + 3 * mostEntries) * matrix
 
 record Entries (c : List ℕ) (start e : ℕ) : Type 0 where
-  passed : Passed (entryVerdict c start) (entries c start) e
+  passed : Passed (entryVerdict p c start) (entries c start) e
 
 -- the count and the entries are there
 record Listed (c : List ℕ) (start : ℕ) : Type 0 where
@@ -42,27 +43,27 @@ record Listed (c : List ℕ) (start : ℕ) : Type 0 where
   room : sectionEnd c start ≤ length c
 
 fault : {c : List ℕ} {matrix start : ℕ} {o : Outcome} → Sections c matrix start → matrix < 3 → (o .number ≡ 0 → ⊥) →
-    o ≡ sectionVerdict c start → o ≡ firstFault (each c) 3
+    o ≡ sectionVerdict p c start → o ≡ firstFault (each c) 3
 fault {c} {matrix} {start} {o} so-far l r e =
     let here : o ≡ each c matrix = rw (← so-far .begins) e in
     stop (each c) 3 (so-far .passed) l (is-refused here r) here
 
 entry-fault : {c : List ℕ} {start e : ℕ} {o : Outcome} → Listed c start → Entries c start e → e < entries c start →
-    (o .number ≡ 0 → ⊥) → o ≡ entryVerdict c start e → o ≡ sectionVerdict c start
+    (o .number ≡ 0 → ⊥) → o ≡ entryVerdict p c start e → o ≡ sectionVerdict p c start
 unfolding sectionVerdict
 entry-fault {c} {start} {e} listed so-far l r found =
     let counted = listed .counted in
-    let first-of-all = stop (entryVerdict c start) (entries c start) (so-far .passed) l (is-refused found r) found in
+    let first-of-all = stop (entryVerdict p c start) (entries c start) (so-far .passed) l (is-refused found r) found in
     search chain depth 16
 
 next : {c : List ℕ} {matrix start e : ℕ} → Sections c matrix start → matrix < 3 → Listed c start → Entries c start e →
     entries c start ≤ e → Sections c (matrix + 1) (sectionEnd c start)
 next {c} {matrix} {start} {e} so-far l listed entered all =
-    let formed : SectionFormed c start = record {
+    let formed : SectionFormed p c start = record {
       counted = listed .counted;
       few = listed .few;
       room = listed .room;
-      entry = λ k below. entry-formed c start k (accepted-each (entryVerdict c start) e (entered .passed .accepted) k (omega arith));
+      entry = λ k below. entry-formed c start k (accepted-each (entryVerdict p c start) e (entered .passed .accepted) k (omega arith));
     } in
     record {
       passed = go-on (each c) 3 (so-far .passed) l (rw (so-far .begins) at (section-accepted formed));
@@ -130,7 +131,7 @@ sections-again c =
 
 returns : tie.Need-returns Inv-loop μ-loop Inv-sections μ-sections
 returns c =
-    c .fine .ensures ∙ end _ 3 (c .before .before .sections .inv .passed) (c .before .if1 .taken) (λ k l. proper-section _ _)
+    c .fine .ensures ∙ end _ 3 (c .before .before .sections .inv .passed) (c .before .if1 .taken) (λ k l. proper-section p _ _)
 
 returns-2 : tie.Need-returns-2 Inv-loop μ-loop Inv-sections μ-sections
 unfolding sectionVerdict
