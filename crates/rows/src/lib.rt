@@ -8,6 +8,7 @@ ghost use Rattle.circuit.specs.WellFormed.{EntryFormed, SectionFormed, Formed, 
 ghost use Rattle.circuit.specs.Totals.{table};
 ghost use Rattle.assignment.specs.Assignment.{assignedAt};
 ghost use Rattle.assignment.specs.WellFormed.{AssignmentFormed};
+ghost use Rattle.field.specs.Field.{p};
 ghost use Rattle.rows.specs.Rows.{rowSums};
 ghost use Rattle.rows.specs.Sums.{Span, entrySums, withEntry, sumsVerdict, RowsRead};
 use outcome::Outcome;
@@ -35,9 +36,9 @@ fn add_entry(
     to: usize,
     out: &mut [u32],
 )
-    requires { ⌜ Formed (now circuit) × EntryFormed (now circuit) start e × (entryAt start e + 3 ≤ length (now circuit)) ⌝ }
+    requires { ⌜ Formed p (now circuit) × EntryFormed p (now circuit) start e × (entryAt start e + 3 ≤ length (now circuit)) ⌝ }
     requires { ⌜ Span (now circuit) (now values) from to × (length (now out) ≡ rows (now circuit)) ⌝ }
-    ensures { λ _. ⌜ now (out .exit) ≡ withEntry (now (circuit .entry)) start (now (values .entry)) from to e (now (out .entry)) ⌝ }
+    ensures { λ _. ⌜ now (out .exit) ≡ withEntry p (now (circuit .entry)) start (now (values .entry)) from to e (now (out .entry)) ⌝ }
 {
     let at = start + 1 + 3 * e;
     let column = circuit[at + 1] as usize;
@@ -61,9 +62,9 @@ fn add_entries(
     to: usize,
     out: &mut [u32],
 )
-    requires { ⌜ Formed (now circuit) × SectionFormed (now circuit) start ⌝ }
+    requires { ⌜ Formed p (now circuit) × SectionFormed p (now circuit) start ⌝ }
     requires { ⌜ Span (now circuit) (now values) from to × (now out ≡ table (λ i. 0) (rows (now circuit))) ⌝ }
-    ensures { λ _. ⌜ now (out .exit) ≡ entrySums (now (circuit .entry)) start (now (values .entry)) from to (entries (now (circuit .entry)) start) ⌝ }
+    ensures { λ _. ⌜ now (out .exit) ≡ entrySums p (now (circuit .entry)) start (now (values .entry)) from to (entries (now (circuit .entry)) start) ⌝ }
 {
     let entries = circuit[start] as usize;
     let mut e = 0;
@@ -82,8 +83,8 @@ pub fn row_sums(
     to: usize,
     out: &mut [u32],
 )
-    requires { ⌜ RowWords (now circuit) matrix (now out) × Span (now circuit) (now values) from to ⌝ }
-    ensures { λ _. ⌜ now (out .exit) ≡ rowSums (now (circuit .entry)) (now (values .entry)) matrix from to ⌝ }
+    requires { ⌜ RowWords p (now circuit) matrix (now out) × Span (now circuit) (now values) from to ⌝ }
+    ensures { λ _. ⌜ now (out .exit) ≡ rowSums p (now (circuit .entry)) (now (values .entry)) matrix from to ⌝ }
 {
     let start = reader::section_start(circuit, matrix);
     slices::clear(out);
@@ -92,8 +93,8 @@ pub fn row_sums(
 
 // Over all columns of an assignment.
 pub fn whole_sums(circuit: &[u32], matrix: usize, values: &[u32], out: &mut [u32])
-    requires { ⌜ RowWords (now circuit) matrix (now out) × AssignmentFormed (now circuit) (now values) ⌝ }
-    ensures { λ _. ⌜ now (out .exit) ≡ rowSums (now (circuit .entry)) (now (values .entry)) matrix 0 (columns (now (circuit .entry))) ⌝ }
+    requires { ⌜ RowWords p (now circuit) matrix (now out) × AssignmentFormed p (now circuit) (now values) ⌝ }
+    ensures { λ _. ⌜ now (out .exit) ≡ rowSums p (now (circuit .entry)) (now (values .entry)) matrix 0 (columns (now (circuit .entry))) ⌝ }
 {
     let n = circuit::counts::columns_of(circuit);
     row_sums(circuit, matrix, values, 0, n, out);
@@ -102,7 +103,7 @@ pub fn whole_sums(circuit: &[u32], matrix: usize, values: &[u32], out: &mut [u32
 // The lowest row where the product of the first two sums is not the third.
 fn sums_verdict(a: &[u32], b: &[u32], c: &[u32]) -> Outcome
     requires { ⌜ (length (now b) ≡ length (now a)) × (length (now c) ≡ length (now a)) ⌝ }
-    ensures { λ r. ⌜ r ≡ sumsVerdict (now (a .entry)) (now (b .entry)) (now (c .entry)) ⌝ }
+    ensures { λ r. ⌜ r ≡ sumsVerdict p (now (a .entry)) (now (b .entry)) (now (c .entry)) ⌝ }
 {
     let mut i = 0;
     while i < a.len() {
@@ -123,9 +124,9 @@ pub fn rows_verdict(
     b: &mut [u32],
     c: &mut [u32],
 ) -> Outcome
-    requires { ⌜ Formed (now circuit) × AssignmentFormed (now circuit) (now values) ⌝ }
+    requires { ⌜ Formed p (now circuit) × AssignmentFormed p (now circuit) (now values) ⌝ }
     requires { ⌜ (length (now a) ≡ rows (now circuit)) × (length (now b) ≡ rows (now circuit)) × (length (now c) ≡ rows (now circuit)) ⌝ }
-    ensures { λ r. ⌜ RowsRead (now (circuit .entry)) (now (values .entry)) (now (a .exit)) (now (b .exit)) (now (c .exit)) r ⌝ }
+    ensures { λ r. ⌜ RowsRead p (now (circuit .entry)) (now (values .entry)) (now (a .exit)) (now (b .exit)) (now (c .exit)) r ⌝ }
 {
     whole_sums(circuit, 0, values, a);
     whole_sums(circuit, 1, values, b);

@@ -7,8 +7,10 @@ use native.Mathlib.Omega.{arith}
 use borrow.Author.Needs.{needs}
 use lib.ListN.{length}
 use Rattle.circuit.specs.Circuit.{rows, entries}
+use Rattle.circuit.proofs.Rows.{row-inside}
 use Rattle.circuit.specs.WellFormed.{EntryFormed}
 use Rattle.circuit.proofs.Totals.{length-table}
+use Rattle.field.specs.Field.{p}
 use Rattle.rows.specs.Sums.{entrySums, withEntry}
 use Rattle.rows.proofs.Sums.{next-entry, length-entry-sums, no-entries}
 use Rattle.rows.proofs.add_entries.Statement.{statement}
@@ -16,16 +18,16 @@ use Rattle.rows.proofs.add_entries.Tie as tie
 
 record Added (c : List ℕ) (start : ℕ) (a : List ℕ) (from to : ℕ) (out : List ℕ) (e : ℕ) : Type 0 where
   within : e ≤ entries c start
-  words : out ≡ entrySums c start a from to e
+  words : out ≡ entrySums p c start a from to e
 
 size : {c a out : List ℕ} {start from to e : ℕ} → Added c start a from to out e → length out ≡ rows c
-size {c} {a} {start = start} {from = from} {to = to} {e = e} h = ap length (h .words) ∙ length-entry-sums c start a from to e
+size {c} {a} {start = start} {from = from} {to = to} {e = e} h = ap length (h .words) ∙ length-entry-sums p c start a from to e
 
-next : {c a out new : List ℕ} {start from to e : ℕ} → Added c start a from to out e → EntryFormed c start e → e < entries c start →
-    new ≡ withEntry c start a from to e out → Added c start a from to new (e + 1)
+next : {c a out new : List ℕ} {start from to e : ℕ} → Added c start a from to out e → EntryFormed p c start e → e < entries c start →
+    new ≡ withEntry p c start a from to e out → Added c start a from to new (e + 1)
 next {c} {a} {start = start} {from = from} {to = to} {e = e} h formed l made = record {
   within = omega arith;
-  words = made ∙ ap (withEntry c start a from to e) (h .words) ∙ next-entry c start a from to e (formed .row);
+  words = made ∙ ap (withEntry p c start a from to e) (h .words) ∙ next-entry p c start a from to e (row-inside formed);
 }
 
 abbrev Inv-loop : tie.InvT-loop
@@ -37,7 +39,7 @@ abbrev μ-loop : tie.MeasureT-loop
 loop-holds : tie.Need-loop-holds Inv-loop μ-loop
 loop-holds c =
     let entry = c .before .before .before .before in
-    record { within = search needs; words = entry .pre .1 .1 ∙ no-entries _ _ _ _ _ }
+    record { within = search needs; words = entry .pre .1 .1 ∙ no-entries p _ _ _ _ _ }
 
 add-entry-requires : tie.Need-add-entry-requires Inv-loop μ-loop
 add-entry-requires c κs =
@@ -58,7 +60,7 @@ same-length c =
 
 returns : tie.Need-returns Inv-loop μ-loop
 returns c =
-    c .before .loop .inv .words ∙ ap (entrySums _ _ _ _ _) (le-antisymm (c .before .loop .inv .within) (c .loop-test .left))
+    c .before .loop .inv .words ∙ ap (entrySums p _ _ _ _ _) (le-antisymm (c .before .loop .inv .within) (c .loop-test .left))
 
 pub add-entries-spec : {M : Type 1} → statement M
 add-entries-spec = tie.close

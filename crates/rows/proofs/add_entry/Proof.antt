@@ -6,25 +6,27 @@ use native.Mathlib.Omega.{arith}
 use borrow.Author.Tests.{le-leb, lt-leb}
 use lib.ListN.{length, set}
 use Rattle.field.specs.Field.{p}
-use Rattle.circuit.specs.Circuit.{word, rowOf, columnOf, valueOf}
+use Rattle.circuit.specs.Circuit.{rows, word, rowOf, columnOf, valueOf}
 use Rattle.assignment.specs.Assignment.{assigned}
 use Rattle.assignment.proofs.Assigned.{assigned-order}
+use Rattle.outcome.specs.Verdict.{Within}
+use Rattle.circuit.proofs.Rows.{row-inside}
 use Rattle.rows.specs.Sums.{withEntry}
 use borrow.Author.Needs.{needs}
 use Rattle.rows.proofs.add_entry.Statement.{statement}
 use Rattle.rows.proofs.add_entry.Tie as tie
 
 module _ (c : List ℕ) (s : ℕ) (a : List ℕ) (from to e : ℕ) (xs : List ℕ) where
-  too-low : columnOf c s e ≤ from → withEntry c s a from to e xs ≡ xs
+  too-low : columnOf c s e ≤ from → withEntry p c s a from to e xs ≡ xs
   unfolding withEntry
   too-low h = rw (withEntry, lt-leb (suc from) (columnOf c s e) (omega arith))
 
-  too-high : from < columnOf c s e → to < columnOf c s e → withEntry c s a from to e xs ≡ xs
+  too-high : from < columnOf c s e → to < columnOf c s e → withEntry p c s a from to e xs ≡ xs
   unfolding withEntry
   too-high h k = rw (withEntry, le-leb (suc from) (columnOf c s e) h, lt-leb (columnOf c s e) to k)
 
   counted : from < columnOf c s e → columnOf c s e ≤ to →
-      withEntry c s a from to e xs
+      withEntry p c s a from to e xs
       ≡ set xs (rowOf c s e - 1) ((word xs (rowOf c s e - 1) + assigned c a (columnOf c s e) * valueOf c s e) % p)
   unfolding withEntry
   counted h k = rw (withEntry, le-leb (suc from) (columnOf c s e) h, le-leb (columnOf c s e) to k)
@@ -43,6 +45,12 @@ inside c =
     omega
     (arith, c .assigned-at .ensures, assigned-order (entry .args .circuit .now) column (entry .args .to) (search needs), entry .pre .1 .0 .given)
 
+-- and so is the row
+row : (c : tie.After-assigned-at) →
+    let entry = c .before .before .before .before .before .before .before .before in
+    Within 1 (rowOf (entry .args .circuit .now) (entry .args .start) (entry .args .e)) (rows (entry .args .circuit .now))
+row c = row-inside (c .before .before .before .before .before .before .before .before .pre .0 .1)
+
 returns-3 : tie.Need-returns-3
 returns-3 c =
     let entry = c .before .before .before .before .before .before .before .before .before .before .before .before in
@@ -52,4 +60,8 @@ returns-3 c =
 
 pub add-entry-spec : {M : Type 1} → statement M
 add-entry-spec =
-    tie.close (tie.spec (λ c. search needs) (λ c. search needs) (λ c. search needs) (λ c. search needs) (λ c. search needs) (λ c. search needs) (λ c. search needs) returns returns-2 (λ c. search needs) (λ c. search needs) (λ c. search needs) (λ c. search needs) (λ c κs. search needs) (λ c. search needs) (λ c. search needs) (λ c. omega (arith, inside (c .before))) (λ c. inside (c .before .before)) (λ c. search needs) (λ c. search needs) (λ c. search needs) (λ c κs. search needs) (λ c. search needs) (λ c. search needs) (λ c. search needs) returns-3)
+    tie.close (tie.spec (λ c. search needs) (λ c. search needs) (λ c. search needs) (λ c. search needs) (λ c. search needs) (λ c. search needs)
+    (λ c. search needs) returns returns-2 (λ c. search needs) (λ c. search needs) (λ c. search needs) (λ c. search needs) (λ c κs. search needs)
+    (λ c. search needs) (λ c. let here = row (c .before) in search needs) (λ c. omega (arith, inside (c .before))) (λ c. inside (c .before .before))
+    (λ c. search needs) (λ c. search needs) (λ c. search needs) (λ c κs. search needs) (λ c. search needs)
+    (λ c. let here = row (c .before .before .before .before) in search needs) (λ c. search needs) returns-3)

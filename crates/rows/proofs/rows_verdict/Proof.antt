@@ -7,10 +7,12 @@ use Rattle.rows.proofs.rows_verdict.Tie as tie
 
 returns : tie.Need-returns
 returns c =
-    let a = c .before .before .before .before .before .before .before .before .before .before .before .before .before .before .whole-sums .ensures in
+    let one = c .before .before .before .before .before .before .before .before .before .before .before .before .before .before in
+    let start = one .before .before .before .before .before .before .before in
+    let a = one .whole-sums .ensures in
     let b = c .before .before .before .before .before .before .before .before .before .before .whole-sums2 .ensures in
     let d = c .before .before .before .before .before .before .whole-sums3 .ensures in
-    record { sums = record { first = a; second = b; third = d }; outcome = rw (a, b, d) at (c .sums-verdict .ensures) ∙ sums-rows _ _ }
+    record { sums = record { first = a; second = b; third = d }; outcome = rw (a, b, d) at (c .sums-verdict .ensures) ∙ sums-rows (start .pre .0 .0) _ }
 
 pub rows-verdict-spec : {M : Type 1} → statement M
 rows-verdict-spec =
