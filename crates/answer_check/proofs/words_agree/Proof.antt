@@ -9,14 +9,14 @@ returns : tie.Need-returns
 returns c =
     let start = c .before .before .before .before .before .before in
     let args = start .args in
-    decides-true (same-words (args .r) (args .a) (args .b) (args .c) (args .z) (c .before .before .before .before .before .plus .ensures) (c .before .before .before .before .plus2 .ensures) (c .before .before .before .plus3 .ensures)
+    decides-true (same-words (args .r) (args .part-a) (args .part-b) (args .part-c) (args .z) (c .before .before .before .before .before .plus .ensures) (c .before .before .before .before .plus2 .ensures) (c .before .before .before .plus3 .ensures)
     (c .before .before .times .ensures) (c .before .add-scaled .ensures) (c .if1 .taken))
 
 returns-2 : tie.Need-returns-2
 returns-2 c =
     let start = c .before .before .before .before .before .before in
     let args = start .args in
-    decides-false (λ e. c .if1 .left (words-same (args .r) (args .a) (args .b) (args .c) (args .z) (c .before .before .before .before .before .plus .ensures) (c .before .before .before .before .plus2 .ensures) (c .before .before .before .plus3 .ensures)
+    decides-false (λ e. c .if1 .left (words-same (args .r) (args .part-a) (args .part-b) (args .part-c) (args .z) (c .before .before .before .before .before .plus .ensures) (c .before .before .before .before .plus2 .ensures) (c .before .before .before .plus3 .ensures)
     (c .before .before .times .ensures) (c .before .add-scaled .ensures) e))
 
 pub words-agree-spec : {M : Type 1} → statement M
