@@ -13,6 +13,9 @@ ghost use Rattle.poly.specs.Division.{division};
 
 pub mod interpolation;
 
+// Words of the work room of A'B' (RULES 4).
+pub const PRODUCT: usize = 513;
+
 // The value at s, from the top word down with one running word. Powers begin with 0.
 pub fn value_at(f: &[u32], s: u32) -> u32
     ensures { λ r. ⌜ r ≡ value (now (f .entry)) s % p ⌝ }
@@ -86,11 +89,11 @@ pub fn add_product(room: &mut [u32], f: &[u32], g: &[u32])
 }
 
 // The whole product of two lists of up to 257 words, in the work room of 513 words.
-pub fn product(f: &[u32], g: &[u32]) -> [u32; 513]
+pub fn product(f: &[u32], g: &[u32]) -> [u32; PRODUCT]
     requires { ⌜ (length (now f) ≤ 257) × (length (now g) ≤ 257) ⌝ }
     ensures { λ r. ⌜ r ≡ padded 513 (reduced p (product (now (f .entry)) (now (g .entry)))) ⌝ }
 {
-    let mut room = [0u32; 513];
+    let mut room = [0u32; PRODUCT];
     add_product(&mut room, f, g);
     room
 }
