@@ -7,7 +7,7 @@ use native.Mathlib.Omega.{arith}
 use Rattle.algebra.specs.Congruence.{_≈⟨_⟩_, negative}
 use Rattle.algebra.specs.Polynomial.{value}
 use Rattle.algebra.specs.Points.{consecutive, target}
-use Rattle.algebra.specs.Basis.{without, apartness}
+use Rattle.algebra.specs.Basis.{without, apartness, descent}
 use Rattle.algebra.proofs.Congruence.{≈-eq, ≈-sym, ≈-trans, ≈-plus, ≈-times, ≈-product, ≈-negative, by}
 use Rattle.algebra.proofs.Consecutive.{consecutive-at}
 use Rattle.algebra.proofs.Target.{target-value}
@@ -16,11 +16,6 @@ use Rattle.algebra.proofs.Target.{target-value}
 unfoldable pub ascent : ℕ → ℕ
 ascent zero = 1
 ascent (suc n) = ascent n * suc n
-
--- −1 · −2 · .. · −n
-unfoldable pub descent : ℕ → ℕ → ℕ
-descent p zero = 1
-descent p (suc n) = descent p n * negative p (suc n)
 
 pub value-none : (p s : ℕ) → value (target p []) s ≡ 1
 unfolding target value

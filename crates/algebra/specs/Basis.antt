@@ -4,7 +4,7 @@ use mathlib.Core.Path.{_≡_}
 use mathlib.Core.List.{List, [], _∷_}
 use Prim.Native.Nat.{ℕ, zero, suc, _*_, _<_}
 use lib.ListN.{length, getD}
-use Rattle.algebra.specs.Congruence.{_≈⟨_⟩_, Inverse}
+use Rattle.algebra.specs.Congruence.{_≈⟨_⟩_, negative, Inverse}
 use Rattle.algebra.specs.Polynomial.{Words, value}
 use Rattle.algebra.specs.Points.{target}
 
@@ -21,6 +21,11 @@ others p xs i s = value (target p (without i xs)) s
 -- all (x_i − x_j) but its own, multiplied
 abbrev pub apartness : ℕ → List ℕ → ℕ → ℕ
 apartness p xs i = others p xs i (getD xs i 0)
+
+-- −1 · −2 · .. · −n: the differences of a point to the n points right after it, multiplied
+unfoldable pub descent : ℕ → ℕ → ℕ
+descent p zero = 1
+descent p (suc n) = descent p n * negative p (suc n)
 
 -- a word for each point: the inverse of its differences to the others
 pub record BasisWeights (p : ℕ) (xs ws : List ℕ) : Type 0 where

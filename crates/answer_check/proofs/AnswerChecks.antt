@@ -12,7 +12,7 @@ use Rattle.field.specs.Field.{p}
 use Rattle.basis.specs.BasisAt.{BasisAt}
 use Rattle.circuit.specs.Circuit.{rows, publics}
 use Rattle.circuit.specs.Reader.{circuitVerdict}
-use Rattle.evaluation.specs.Values.{PartAt}
+use Rattle.evaluation.specs.Values.{PartAt, PartValue}
 use Rattle.qap.specs.declared.FourAnswers.{FourAnswers}
 use Rattle.qap.specs.Polynomials.{PublicPart, targetOf}
 use Rattle.qap.specs.Answers.{AnswersAgree}
@@ -22,26 +22,30 @@ use Rattle.refusals.specs.Decides.{Decides}
 use Rattle.refusals.proofs.Deciding.{decides-other}
 
 -- reduced words are equal exactly where what they stand for is congruent
-module _ (r : FourAnswers) (a b c z : ℕ) {u v t x y : ℕ} (first : u ≡ (r .first + a) % p) (second : v ≡ (r .second + b) % p)
-    (third : t ≡ (r .third + c) % p) (left : x ≡ (u * v) % p) (right : y ≡ (t + z * r .fourth) % p) where
-  left-word : x ≡ ((r .first + a) * (r .second + b)) % p
-  left-word = left ∙ rw (first, second) (≈-product (≈-reduced p (r .first + a)) (≈-reduced p (r .second + b)) .same)
+module _ (r : FourAnswers) (part-a part-b part-c z : ℕ) {u v t x y : ℕ} (first : u ≡ (r .first + part-a) % p) (second : v ≡ (r .second + part-b) % p)
+    (third : t ≡ (r .third + part-c) % p) (left : x ≡ (u * v) % p) (right : y ≡ (t + z * r .fourth) % p) where
+  left-word : x ≡ ((r .first + part-a) * (r .second + part-b)) % p
+  left-word = left ∙ rw (first, second) (≈-product (≈-reduced p (r .first + part-a)) (≈-reduced p (r .second + part-b)) .same)
 
-  right-word : y ≡ ((r .third + c) + z * r .fourth) % p
-  right-word = right ∙ rw third (≈-plus (≈-reduced p (r .third + c)) (≈-refl p (z * r .fourth)) .same)
+  right-word : y ≡ ((r .third + part-c) + z * r .fourth) % p
+  right-word = right ∙ rw third (≈-plus (≈-reduced p (r .third + part-c)) (≈-refl p (z * r .fourth)) .same)
 
-  pub same-words : x ≡ y → (r .first + a) * (r .second + b) ≈⟨ p ⟩ (r .third + c) + z * r .fourth
+  pub same-words : x ≡ y → (r .first + part-a) * (r .second + part-b) ≈⟨ p ⟩ (r .third + part-c) + z * r .fourth
   same-words e = record { same = sym left-word ∙ e ∙ right-word }
 
-  pub words-same : (r .first + a) * (r .second + b) ≈⟨ p ⟩ (r .third + c) + z * r .fourth → x ≡ y
+  pub words-same : (r .first + part-a) * (r .second + part-b) ≈⟨ p ⟩ (r .third + part-c) + z * r .fourth → x ≡ y
   words-same e = left-word ∙ e .same ∙ sym right-word
 
 -- the words of the public parts at s
 abbrev PublicAt : List ℕ → List ℕ → ℕ → ℕ → ℕ → Type 0
 PublicAt c b matrix s x = PartAt c b matrix 0 (publics c) s x
 
+pub public-value : {c b basis : List ℕ} {matrix q x z : ℕ} (s : ℕ) → q ≡ publics c → BasisAt p (rows c) s basis z →
+    PartValue c b matrix 0 q basis x → PublicAt c b matrix s x
+public-value s count at found f part = found .at s (at .values) f (rw count part)
+
 module _ (c b : List ℕ) (accepted : Accepted (circuitVerdict c)) where
-  module _ (s : ℕ) (r : FourAnswers) {bs : List ℕ} {z A B C : ℕ} (at : BasisAt p (rows c) s bs z)
+  module _ (s : ℕ) (r : FourAnswers) {basis : List ℕ} {z A B C : ℕ} (at : BasisAt p (rows c) s basis z)
       (first : PublicAt c b 0 s A) (second : PublicAt c b 1 s B) (third : PublicAt c b 2 s C) where
     near : {matrix x : ℕ} {f : List ℕ} → PublicAt c b matrix s x → PublicPart c b matrix f → x ≈⟨ p ⟩ value f s
     near {f = f} v part = rw (v f part) (≈-reduced p (value f s))

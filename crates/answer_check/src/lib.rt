@@ -1,11 +1,9 @@
 // The tablet's answer check (RULES 5). It asks nothing of its input; 13 is an equality that is false.
 ghost use mathlib.Core.Path.{_≡_};
-ghost use Prim.Native.Nat.{_+_, _*_, _≤_};
-ghost use lib.ListN.{length};
+ghost use Prim.Native.Nat.{_+_, _*_};
 ghost use Rattle.outcome.specs.Verdict.{Accepted};
 ghost use Rattle.algebra.specs.Congruence.{_≈⟨_⟩_};
 ghost use Rattle.field.specs.Field.{p};
-ghost use Rattle.circuit.specs.Circuit.{rows};
 ghost use Rattle.qap.specs.declared.FourAnswers.{FourAnswers};
 ghost use Rattle.qap.specs.Answers.{AnswersAgree};
 ghost use Rattle.qap.specs.Refusals.{checkAnswersVerdict};
@@ -32,65 +30,33 @@ fn check_answers_verdict(circuit: &[u32], section: &[u32], s: u32, r: FourAnswer
     refusals::point_verdict(circuit, s)
 }
 
-// u v = t + z times the fourth answer, where a, b, c are added to the first three, giving u, v, t.
-fn words_agree(r: FourAnswers, a: u32, b: u32, c: u32, z: u32) -> bool
-    ensures { λ x. ⌜ Decides ((r .first + a) * (r .second + b) ≈⟨ p ⟩ (r .third + c) + z * r .fourth) x ⌝ }
+// u v = t + z times the fourth answer, where the public parts are added to the first three, giving u, v, t.
+fn words_agree(r: FourAnswers, part_a: u32, part_b: u32, part_c: u32, z: u32) -> bool
+    ensures { λ x. ⌜ Decides ((r .first + «part_a») * (r .second + «part_b») ≈⟨ p ⟩ (r .third + «part_c») + z * r .fourth) x ⌝ }
 {
-    let u = field::plus(r.first, a);
-    let v = field::plus(r.second, b);
-    let t = field::plus(r.third, c);
+    let u = field::plus(r.first, part_a);
+    let v = field::plus(r.second, part_b);
+    let t = field::plus(r.third, part_c);
     if field::times(u, v) == field::add_scaled(t, z, r.fourth) {
         return true;
     }
     false
 }
 
-// The equality at s, with b and y of as many words as there are rows.
-fn agree_cut(
-    circuit: &[u32],
-    section: &[u32],
-    s: u32,
-    r: FourAnswers,
-    b: &mut [u32],
-    y: &mut [u32],
-) -> bool
-    requires { ⌜ Accepted (checkAnswersVerdict (now circuit) (now section) s r) ⌝ }
-    requires { ⌜ (length (now b) ≡ rows (now circuit)) × (length (now y) ≡ rows (now circuit)) ⌝ }
-    ensures { λ x. ⌜ Decides (AnswersAgree (now (circuit .entry)) (now (section .entry)) s r) x ⌝ }
-{
-    let q = circuit::counts::publics_of(circuit);
-    let inverses = field::table::inverses();
-    let z = basis::basis_values(b, s, &inverses);
-    let first = evaluation::part_value(circuit, 0, section, 0, q, b, y);
-    let second = evaluation::part_value(circuit, 1, section, 0, q, b, y);
-    let third = evaluation::part_value(circuit, 2, section, 0, q, b, y);
-    words_agree(r, first, second, third, z)
-}
-
-fn agree_in(
-    circuit: &[u32],
-    section: &[u32],
-    s: u32,
-    r: FourAnswers,
-    b: &mut [u32],
-    y: &mut [u32],
-) -> bool
-    requires { ⌜ Accepted (checkAnswersVerdict (now circuit) (now section) s r) ⌝ }
-    requires { ⌜ (256 ≤ length (now b)) × (256 ≤ length (now y)) ⌝ }
-    ensures { λ x. ⌜ Decides (AnswersAgree (now (circuit .entry)) (now (section .entry)) s r) x ⌝ }
-{
-    let m = circuit::counts::rows_of(circuit);
-    agree_cut(circuit, section, s, r, &mut b[..m], &mut y[..m])
-}
-
-// The answer check's equality.
+// The answer check's equality at s.
 fn answers_agree(circuit: &[u32], section: &[u32], s: u32, r: FourAnswers) -> bool
     requires { ⌜ Accepted (checkAnswersVerdict (now circuit) (now section) s r) ⌝ }
     ensures { λ x. ⌜ Decides (AnswersAgree (now (circuit .entry)) (now (section .entry)) s r) x ⌝ }
 {
-    let mut b = [0u32; 256];
-    let mut y = [0u32; 256];
-    agree_in(circuit, section, s, r, &mut b, &mut y)
+    let m = circuit::counts::rows_of(circuit);
+    let q = circuit::counts::publics_of(circuit);
+    let inverses = field::table::inverses();
+    let mut basis = slices::room();
+    let z = basis::basis_values(&mut basis[..m], s, &inverses);
+    let part_a = evaluation::part_value(circuit, 0, section, 0, q, &basis[..m]);
+    let part_b = evaluation::part_value(circuit, 1, section, 0, q, &basis[..m]);
+    let part_c = evaluation::part_value(circuit, 2, section, 0, q, &basis[..m]);
+    words_agree(r, part_a, part_b, part_c, z)
 }
 
 // Four answers to the point s, beside a public section.

@@ -22,7 +22,7 @@ use Rattle.qap.specs.Polynomials.{targetOf, IsQuotient}
 use Rattle.qap.specs.Answers.{IsAnswers}
 use Rattle.qap.proofs.Parts.{part-exists}
 use Rattle.qap.proofs.Quotients.{quotient-exists}
-use Rattle.evaluation.specs.declared.Three.{Three}
+use Rattle.evaluation.specs.declared.ThreeValues.{ThreeValues}
 use Rattle.evaluation.specs.Values.{ThreeAt}
 
 module _ (c a : List ℕ) (distinct : Distinct p (points c)) (d : Blinders) (s : ℕ) (off : value (targetOf c) s ≈⟨ p ⟩ 0 → ⊥) where
@@ -30,7 +30,7 @@ module _ (c a : List ℕ) (distinct : Distinct p (points c)) (d : Blinders) (s :
   word-at : (f : List ℕ) (k : ℕ) {r : ℕ} → r ≡ (value f s + k * value (targetOf c) s) % p → r ≈⟨ p ⟩ value (blinded p (points c) f k) s
   word-at f k e = rw (e, value-sum, value-multiple) (≈-reduced p (value f s + k * value (targetOf c) s))
 
-  fourth-word : {h : List ℕ} {w : Three} {z r : ℕ} → IsQuotient c a d h → ThreeAt c a 0 d s w → z ≡ value (targetOf c) s % p → r < p →
+  fourth-word : {h : List ℕ} {w : ThreeValues} {z r : ℕ} → IsQuotient c a d h → ThreeAt c a 0 d s w → z ≡ value (targetOf c) s % p → r < p →
       w .first * w .second ≈⟨ p ⟩ w .third + z * r → r ≡ value h s % p
   fourth-word {h} {w} {z} {r} q all is-z below e =
       let Z = value (targetOf c) s in
@@ -44,7 +44,7 @@ module _ (c a : List ℕ) (distinct : Distinct p (points c)) (d : Blinders) (s :
       (omega arith) in
       ≈-words (≈-trans (cancel p-prime Z off same) (≈-sym (≈-reduced p (value h s)))) below (mod-lt (value h s) p-positive)
 
-  pub four-answers : RowsHold c a → {own all : Three} {z r : ℕ} → ThreeAt c a (publics c) d s own → ThreeAt c a 0 d s all → z ≡ value (targetOf c) s % p →
+  pub four-answers : RowsHold c a → {own all : ThreeValues} {z r : ℕ} → ThreeAt c a (publics c) d s own → ThreeAt c a 0 d s all → z ≡ value (targetOf c) s % p →
       r < p → all .first * all .second ≈⟨ p ⟩ all .third + z * r →
       IsAnswers c a d s (record { first = own .first; second = own .second; third = own .third; fourth = r })
   four-answers hold {own} {all} mine whole is-z below e =

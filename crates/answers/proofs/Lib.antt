@@ -1,1 +1,2 @@
 pub mod FourLaws
+pub mod OneResult

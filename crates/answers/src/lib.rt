@@ -1,15 +1,11 @@
 // The four answers to a query (RULES 5). The call asks nothing of its input.
 ghost use mathlib.Core.Path.{_≡_};
-ghost use Prim.Native.Nat.{_≤_};
-ghost use lib.ListN.{length};
 ghost use Rattle.outcome.specs.Verdict.{Accepted};
-ghost use Rattle.circuit.specs.Circuit.{rows};
 ghost use Rattle.qap.specs.declared.Blinders.{Blinders};
 ghost use Rattle.qap.specs.Answers.{IsAnswers};
-ghost use Rattle.qap.specs.Refusals.{readyVerdict, pointVerdict, answersVerdict};
+ghost use Rattle.qap.specs.Refusals.{readyVerdict, pointVerdict};
 ghost use Rattle.qap.specs.Calls.{noAnswers, AnswersCall};
-ghost use Rattle.rows.specs.Sums.{WholeSums};
-ghost use Rattle.answers.specs.RowsAnswered.{RowsAnswered};
+ghost use Rattle.answers.specs.RowsAnswered.{AnswersGiven, RowsAnswered};
 use outcome::Outcome;
 use qap::Blinders;
 use qap::FourAnswers;
@@ -35,89 +31,31 @@ fn none(outcome: Outcome) -> Answered
     }
 }
 
-// Private parts for the first three; for the fourth A'(s), B'(s), C'(s) from a, b, c, the row sums over all columns.
-fn answers_in(
+// Private parts for the first three; for the fourth A'(s), B'(s), C'(s) from the row sums over all columns.
+fn four_answers(
     circuit: &[u32],
     values: &[u32],
     d: Blinders,
     s: u32,
-    a: &[u32],
-    b: &[u32],
-    c: &[u32],
-    w: &mut [u32],
-    y: &mut [u32],
+    sums_a: &[u32],
+    sums_b: &[u32],
+    sums_c: &[u32],
 ) -> FourAnswers
-    requires { ⌜ Accepted (answersVerdict (now circuit) (now values) d s) × WholeSums (now circuit) (now values) (now a) (now b) (now c) ⌝ }
-    requires { ⌜ (length (now w) ≡ rows (now circuit)) × (length (now y) ≡ rows (now circuit)) ⌝ }
+    requires { ⌜ AnswersGiven (now circuit) (now values) d s (now «sums_a») (now «sums_b») (now «sums_c») ⌝ }
     ensures { λ r. ⌜ IsAnswers (now (circuit .entry)) (now (values .entry)) d s r ⌝ }
 {
-    let q = circuit::counts::publics_of(circuit);
+    let m = sums_a.len();
     let inverses = field::table::inverses();
-    let z = basis::basis_values(w, s, &inverses);
-    let own = evaluation::three_at(circuit, values, q, d, z, w, y);
-    let all = evaluation::three_of(a, b, c, d, z, w);
+    let mut basis = slices::room();
+    let z = basis::basis_values(&mut basis[..m], s, &inverses);
+    let private = evaluation::private_parts(circuit, values, d, z, &basis[..m]);
+    let whole = evaluation::whole_values(sums_a, sums_b, sums_c, d, z, &basis[..m]);
     FourAnswers {
-        first: own.first,
-        second: own.second,
-        third: own.third,
-        fourth: evaluation::quotient_value(all, z),
+        first: private.first,
+        second: private.second,
+        third: private.third,
+        fourth: evaluation::quotient_value(whole, z),
     }
-}
-
-// 10, and then the answers, with lent words as many as there are rows.
-fn rows_in(
-    circuit: &[u32],
-    values: &[u32],
-    d: Blinders,
-    s: u32,
-    a: &mut [u32],
-    b: &mut [u32],
-    c: &mut [u32],
-    w: &mut [u32],
-    y: &mut [u32],
-) -> Answered
-    requires { ⌜ Accepted (readyVerdict (now circuit) (now values) d) × Accepted (pointVerdict (now circuit) s) ⌝ }
-    requires { ⌜ (length (now a) ≡ rows (now circuit)) × (length (now b) ≡ rows (now circuit)) × (length (now c) ≡ rows (now circuit)) × (length (now w) ≡ rows (now circuit)) × (length (now y) ≡ rows (now circuit)) ⌝ }
-    ensures { λ r. ⌜ RowsAnswered (now (circuit .entry)) (now (values .entry)) d s (r .outcome) (r .numbers) ⌝ }
-{
-    let hold = rows::rows_verdict(circuit, values, a, b, c);
-    if hold.number != 0 {
-        return none(hold);
-    }
-    let numbers = answers_in(circuit, values, d, s, a, b, c, w, y);
-    Answered {
-        outcome: hold,
-        numbers,
-    }
-}
-
-fn rows_cut(
-    circuit: &[u32],
-    values: &[u32],
-    d: Blinders,
-    s: u32,
-    a: &mut [u32],
-    b: &mut [u32],
-    c: &mut [u32],
-    w: &mut [u32],
-    y: &mut [u32],
-) -> Answered
-    requires { ⌜ Accepted (readyVerdict (now circuit) (now values) d) × Accepted (pointVerdict (now circuit) s) ⌝ }
-    requires { ⌜ (256 ≤ length (now a)) × (256 ≤ length (now b)) × (256 ≤ length (now c)) × (256 ≤ length (now w)) × (256 ≤ length (now y)) ⌝ }
-    ensures { λ r. ⌜ RowsAnswered (now (circuit .entry)) (now (values .entry)) d s (r .outcome) (r .numbers) ⌝ }
-{
-    let m = circuit::counts::rows_of(circuit);
-    rows_in(
-        circuit,
-        values,
-        d,
-        s,
-        &mut a[..m],
-        &mut b[..m],
-        &mut c[..m],
-        &mut w[..m],
-        &mut y[..m],
-    )
 }
 
 // What the call gives once the checks before 10 have passed. The row sums over all columns serve 10 and the fourth answer.
@@ -125,22 +63,33 @@ pub fn answer_rows(circuit: &[u32], values: &[u32], d: Blinders, s: u32) -> Answ
     requires { ⌜ Accepted (readyVerdict (now circuit) (now values) d) × Accepted (pointVerdict (now circuit) s) ⌝ }
     ensures { λ r. ⌜ RowsAnswered (now (circuit .entry)) (now (values .entry)) d s (r .outcome) (r .numbers) ⌝ }
 {
-    let mut a = [0u32; 256];
-    let mut b = [0u32; 256];
-    let mut c = [0u32; 256];
-    let mut w = [0u32; 256];
-    let mut y = [0u32; 256];
-    rows_cut(
+    let m = circuit::counts::rows_of(circuit);
+    let mut sums_a = slices::room();
+    let mut sums_b = slices::room();
+    let mut sums_c = slices::room();
+    let hold = rows::rows_verdict(
+        circuit,
+        values,
+        &mut sums_a[..m],
+        &mut sums_b[..m],
+        &mut sums_c[..m],
+    );
+    if hold.number != 0 {
+        return none(hold);
+    }
+    let numbers = four_answers(
         circuit,
         values,
         d,
         s,
-        &mut a,
-        &mut b,
-        &mut c,
-        &mut w,
-        &mut y,
-    )
+        &sums_a[..m],
+        &sums_b[..m],
+        &sums_c[..m],
+    );
+    Answered {
+        outcome: hold,
+        numbers,
+    }
 }
 
 // The four answers at s.

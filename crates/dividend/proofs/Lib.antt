@@ -1,4 +1,6 @@
-pub mod RoomLaws
 pub mod BlindedLaws
-pub mod QuotientLaws
 pub mod WholeLaws
+pub mod DividendLaws
+pub mod QuotientLaws
+pub mod GivenLaws
+pub mod OneResult

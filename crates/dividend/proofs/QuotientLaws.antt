@@ -1,4 +1,4 @@
--- From the words of A', B', C' in the room to the quotient of the definition, and to what the division check compares.
+-- From the words of the dividend to the quotient of the definition, and to what the division check compares.
 -- RULES 4.
 use mathlib.Core.Path.{_≡_}
 use mathlib.Core.List.{List}
@@ -25,9 +25,9 @@ use Rattle.qap.specs.Polynomials.{Whole, targetOf, IsQuotient}
 use Rattle.qap.specs.Answers.{CandidateDivides}
 use Rattle.qap.proofs.Parts.{through-part, part-unique}
 use Rattle.qap.proofs.Quotients.{candidate-quotient}
-use Rattle.dividend.specs.Room.{leftSide, roomQuotient}
+use Rattle.dividend.specs.Dividend.{dividendOf, quotientOf}
 use Rattle.dividend.specs.Blinded.{BlindedThrough}
-use Rattle.dividend.proofs.RoomLaws.{room-quotient, room-quotient-size, room-quotient-words, rooms-equal, equal-rooms}
+use Rattle.dividend.proofs.DividendLaws.{dividend-quotient, dividend-quotient-size, dividend-quotient-words, words-divide, divide-words}
 
 -- the same list goes through congruent values
 pub blinded-alike : {xs : List ℕ} {y z : ℕ → ℕ} {d : ℕ} {g : List ℕ} → ((i : ℕ) → i < length xs → y i ≈⟨ p ⟩ z i) → BlindedThrough xs y d g →
@@ -89,30 +89,30 @@ module _ (c a : List ℕ) (few : rows c ≤ 256) (distinct : Distinct p (points 
     divides = divides-alike (bf .same) (bg .same) (bk .same) divides;
   }
 
-  pub quotient-law : RowsHold c a → IsQuotient c a d (roomQuotient (rows c) (leftSide f g k))
+  pub quotient-law : RowsHold c a → IsQuotient c a d (quotientOf (rows c) (dividendOf f g k))
   quotient-law hold =
       let holds : Holds p (points c) f g k = record {
         at-each = λ i l.
             ≈-trans (≈-product (at-points bf i l) (at-points bg i l))
             (≈-trans (hold .at-row (suc i) (omega arith) (omega (arith, points-count)) .equal) (≈-sym (at-points bk i l)));
       } in
-      candidate-quotient c a distinct d (omega (arith, room-quotient-size (rows c) few f g k size-f size-g size-k, points-count))
-      (room-quotient-words (rows c) few f g k size-f size-g size-k)
-      (candidate (room-quotient (rows c) few f g k size-f size-g size-k holds))
+      candidate-quotient c a distinct d (omega (arith, dividend-quotient-size (rows c) few f g k size-f size-g size-k, points-count))
+      (dividend-quotient-words (rows c) few f g k size-f size-g size-k)
+      (candidate (dividend-quotient (rows c) few f g k size-f size-g size-k holds))
 
   module _ (h : List ℕ) (size-h : length h ≡ suc (rows c)) where
     size-z : length (targetOf c) ≡ suc (rows c)
     size-z = omega (arith, length-target p (points c), points-count)
 
-    -- a candidate divides exactly where Z times it fills a room with the same words
-    pub candidate-rooms : CandidateDivides c a d h → leftSide f g k ≡ padded 513 (reduced p (product (targetOf c) h))
-    candidate-rooms q =
+    -- a candidate divides exactly where the words of Z times it are the dividend's
+    pub candidate-words : CandidateDivides c a d h → dividendOf f g k ≡ padded 513 (reduced p (product (targetOf c) h))
+    candidate-words q =
         let same-A = part-unique c a 0 0 (columns c) distinct (q .whole-A) whole-A in
         let same-B = part-unique c a 1 0 (columns c) distinct (q .whole-B) whole-B in
         let same-C = part-unique c a 2 0 (columns c) distinct (q .whole-C) whole-C in
         let divides = rw (same-A, same-B, same-C) at (q .divides) in
-        equal-rooms (rows c) few f g k size-f size-g size-k (targetOf c) h size-z size-h
+        divide-words (rows c) few f g k size-f size-g size-k (targetOf c) h size-z size-h
         (divides-alike (≋-sym (bf .same)) (≋-sym (bg .same)) (≋-sym (bk .same)) divides .equal)
 
-    pub rooms-candidate : leftSide f g k ≡ padded 513 (reduced p (product (targetOf c) h)) → CandidateDivides c a d h
-    rooms-candidate e = candidate (record { equal = rooms-equal (rows c) few f g k size-f size-g size-k (targetOf c) h size-z size-h e })
+    pub words-candidate : dividendOf f g k ≡ padded 513 (reduced p (product (targetOf c) h)) → CandidateDivides c a d h
+    words-candidate e = candidate (record { equal = words-divide (rows c) few f g k size-f size-g size-k (targetOf c) h size-z size-h e })

@@ -1,7 +1,7 @@
 -- Row sums in front of a word of room: with it they make A' (RULES 4).
 use mathlib.Core.Path.{_≡_, sym, _∙_, ap}
 use mathlib.Core.List.{List, _++_}
-use Prim.Native.Nat.{ℕ, suc, _+_, _<_, _≤_}
+use Prim.Native.Nat.{ℕ, suc, _+_, _<_}
 use native.Mathlib.Omega.{arith}
 use lib.ListN.{length, getD, take, drop, length-append, length-drop, List·getD-append}
 use lib.Seq.{take-at}
@@ -10,11 +10,11 @@ use Rattle.algebra.specs.Points.{consecutive}
 use Rattle.algebra.proofs.Congruence.{≈-reduced}
 use Rattle.algebra.proofs.Consecutive.{length-consecutive}
 use Rattle.field.specs.Field.{p}
-use Rattle.circuit.specs.Circuit.{rows, columns, points}
+use Rattle.circuit.specs.Circuit.{rows, columns}
 use Rattle.rows.specs.Rows.{rowSums, wholeSum}
 use Rattle.rows.proofs.Sums.{length-sums, sum-at, sums-words}
 use Rattle.dividend.specs.Blinded.{BlindedThrough}
-use Rattle.dividend.specs.Sides.{BlindedWhole, Given}
+use Rattle.dividend.specs.Dividend.{BlindedWhole}
 use Rattle.dividend.proofs.QuotientLaws.{blinded-alike}
 
 module _ (c a : List ℕ) (matrix m : ℕ) (out sums : List ℕ) (count : m ≡ rows c) (room : length out ≡ m + 1)
@@ -34,6 +34,3 @@ module _ (c a : List ℕ) (matrix m : ℕ) (out sums : List ℕ) (count : m ≡ 
       let below : i < rows c = omega (arith, length-consecutive 1 (rows c)) in
       rw (List·getD-append sums (drop (rows c) out) 0 i (omega (arith, sums-count)), made, sum-at c a matrix 0 (columns c) i below)
       (≈-reduced p (wholeSum c a matrix (suc i)))) (rw count at b)
-
-pub whole-fits : {c a z t : List ℕ} {m d : ℕ} {y : ℕ → ℕ} {g : List ℕ} → Given c a m z t → BlindedThrough (points c) y d g → length g ≤ 257
-whole-fits {c} given b = omega (arith, b .size, length-consecutive 1 (rows c), given .circuit .row-count .at-most)

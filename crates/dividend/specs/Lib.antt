@@ -1,3 +1,2 @@
-pub mod Room
 pub mod Blinded
-pub mod Sides
+pub mod Dividend

@@ -1,6 +1,5 @@
 // The division check (RULES 5). It asks nothing of its input; 13 is an equality that is false.
 ghost use mathlib.Core.Path.{_≡_};
-ghost use Prim.Native.Nat.{_+_, _≤_, _<_};
 ghost use lib.ListN.{length};
 ghost use Rattle.outcome.specs.Verdict.{Accepted};
 ghost use Rattle.qap.specs.declared.Blinders.{Blinders};
@@ -46,46 +45,18 @@ fn same(a: &[u32], b: &[u32]) -> bool
     true
 }
 
-// A'B' − C' and Z times the candidate, each in a room; the target is made in z, of as many words as the candidate.
-fn divides_cut(
-    circuit: &[u32],
-    values: &[u32],
-    d: Blinders,
-    candidate: &[u32],
-    z: &mut [u32],
-) -> bool
-    requires { ⌜ Accepted (checkDivisionVerdict (now circuit) (now values) d (now candidate)) × (length (now z) ≡ length (now candidate)) ⌝ }
-    ensures { λ x. ⌜ Decides (CandidateDivides (now (circuit .entry)) (now (values .entry)) d (now (candidate .entry))) x ⌝ }
-{
-    let m = circuit::counts::rows_of(circuit);
-    let inverses = field::table::inverses();
-    poly::target(z);
-    let left = dividend::sides(circuit, values, d, m, z, &inverses);
-    let right = poly::product(z, candidate);
-    same(&left, &right)
-}
-
-fn divides_in(
-    circuit: &[u32],
-    values: &[u32],
-    d: Blinders,
-    candidate: &[u32],
-    z: &mut [u32],
-) -> bool
-    requires { ⌜ Accepted (checkDivisionVerdict (now circuit) (now values) d (now candidate)) × (257 ≤ length (now z)) ⌝ }
-    ensures { λ x. ⌜ Decides (CandidateDivides (now (circuit .entry)) (now (values .entry)) d (now (candidate .entry))) x ⌝ }
-{
-    let end = candidate.len();
-    divides_cut(circuit, values, d, candidate, &mut z[..end])
-}
-
-// The division check's equality.
+// The division check's equality: the words of A'B' − C' are those of Z times the candidate.
 fn candidate_divides(circuit: &[u32], values: &[u32], d: Blinders, candidate: &[u32]) -> bool
     requires { ⌜ Accepted (checkDivisionVerdict (now circuit) (now values) d (now candidate)) ⌝ }
     ensures { λ x. ⌜ Decides (CandidateDivides (now (circuit .entry)) (now (values .entry)) d (now (candidate .entry))) x ⌝ }
 {
-    let mut z = [0u32; 257];
-    divides_in(circuit, values, d, candidate, &mut z)
+    let m = circuit::counts::rows_of(circuit);
+    let end = m + 1;
+    let mut z = slices::room();
+    poly::target(&mut z[..end]);
+    let left = dividend::dividend(circuit, values, d, m, &z[..end]);
+    let right = poly::product(&z[..end], candidate);
+    same(&left, &right)
 }
 
 // A candidate for the quotient of the blinded polynomials.

@@ -16,15 +16,15 @@ use Rattle.evaluation.specs.Values.{PartAt, BlindedAt}
 use Rattle.evaluation.proofs.PartValues.{part-at}
 
 -- a part's value and the target's, as words
-pub blinded-at : {c a b : List ℕ} (matrix from to d s z v r : ℕ) → to ≡ columns c → BasisAt p (rows c) s b z → PartAt c a matrix from to s v →
-    r ≡ (v + d * z) % p → BlindedAt c a matrix from d s r
-blinded-at {c} {a} matrix from to d s z v r all basis part made f is-part =
-    let one = part f (rw all is-part) in
-    made ∙ rw (one, basis .target-at)
+pub blinded-at : {c a basis : List ℕ} (matrix : ℕ) {from first last : ℕ} (d s z v r : ℕ) → first ≡ from → last ≡ columns c → BasisAt p (rows c) s basis z →
+    PartAt c a matrix first last s v → r ≡ (v + d * z) % p → BlindedAt c a matrix from d s r
+blinded-at {c} {a} matrix d s z v r begins ends at part made f is-part =
+    let one = part f (rw (begins, ends) is-part) in
+    made ∙ rw (one, at .target-at)
     (≈-plus (≈-reduced p (value f s)) (≈-times d (≈-reduced p (value (targetOf c) s))) .same)
 
 -- the same over all columns, from row sums that are at hand
-pub whole-at : {c a y b : List ℕ} (matrix d s z v r : ℕ) → Formed c → BasisAt p (rows c) s b z → y ≡ rowSums c a matrix 0 (columns c) →
-    v ≡ total (λ i. getD y i 0 * getD b i 0) (length y) % p → r ≡ (v + d * z) % p → BlindedAt c a matrix 0 d s r
-whole-at {c} {a} {y} {b} matrix d s z v r formed basis sums dot made =
-    blinded-at matrix 0 (columns c) d s z v r refl basis (part-at c a matrix 0 (columns c) formed y b sums dot s (basis .values)) made
+pub whole-at : {c a sums basis : List ℕ} (matrix d s z v r : ℕ) → Formed c → BasisAt p (rows c) s basis z → sums ≡ rowSums c a matrix 0 (columns c) →
+    v ≡ total (λ i. getD sums i 0 * getD basis i 0) (length sums) % p → r ≡ (v + d * z) % p → BlindedAt c a matrix 0 d s r
+whole-at {c} {a} {sums} {basis} matrix d s z v r formed at made dot blinded =
+    blinded-at matrix d s z v r refl refl at (part-at c a matrix 0 (columns c) formed sums basis made dot s (at .values)) blinded

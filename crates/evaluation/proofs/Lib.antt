@@ -1,2 +1,3 @@
 pub mod PartValues
 pub mod BlindedValues
+pub mod OneResult

@@ -33,9 +33,9 @@ module _ (c a : List ℕ) (matrix from to : ℕ) where
             rw (sum-at c a matrix from to i below) (≈-trans (t .takes i l) (≈-sym (≈-reduced p (rowSum c a matrix (suc i) from to))));
       }
 
-  pub part-at : Formed c → (y b : List ℕ) {r : ℕ} → y ≡ rowSums c a matrix from to → r ≡ total (λ i. getD y i 0 * getD b i 0) (length y) % p →
-      (s : ℕ) → BasisValues p (points c) s b → PartAt c a matrix from to s r
-  part-at formed y b made e s basis f part =
+  pub part-at : Formed c → (sums basis : List ℕ) {r : ℕ} → sums ≡ rowSums c a matrix from to → r ≡ total (λ i. getD sums i 0 * getD basis i 0) (length sums) % p →
+      (s : ℕ) → BasisValues p (points c) s basis → PartAt c a matrix from to s r
+  part-at formed sums basis made e s at f part =
       let distinct : Distinct p (points c) = distinct-consecutive 1 (rows c) (omega (arith, formed .row-count .at-most)) in
-      dot-value p-prime distinct s y basis (rw made (through-sums part))
+      dot-value p-prime distinct s sums at (rw made (through-sums part))
       (ap length made ∙ length-sums c a matrix from to ∙ omega (arith, length-consecutive 1 (rows c))) e

@@ -1,14 +1,21 @@
--- Values at the point s of a part of a matrix, the sum over the columns after `from` up to `to`, and of three of them with blinders.
+-- Values at the point s of a part of a matrix, the sum over the columns after `from` up to `to`, and of three of them with blinders;
+-- and what the functions that compute them give where the words lent to them are the basis values at s.
 -- RULES 5: private parts in the answers, public ones in their check; over all columns A'(s), B'(s), C'(s).
 use mathlib.Core.Path.{_≡_}
 use mathlib.Core.List.{List}
-use Prim.Native.Nat.{ℕ, _+_, _*_, _%_}
+use Prim.Native.Nat.{ℕ, _+_, _*_, _%_, _<_}
+use lib.ListN.{length}
+use Rattle.algebra.specs.Congruence.{_≈⟨_⟩_}
 use Rattle.algebra.specs.Polynomial.{value}
+use Rattle.algebra.specs.Basis.{BasisValues}
 use Rattle.field.specs.Field.{p}
-use Rattle.circuit.specs.Circuit.{columns}
+use Rattle.basis.specs.BasisAt.{BasisAt}
+use Rattle.circuit.specs.Circuit.{rows, publics, columns, points}
+use Rattle.circuit.specs.WellFormed.{Formed}
+use Rattle.rows.specs.Sums.{Span, WholeSums}
 use Rattle.qap.specs.declared.Blinders.{Blinders}
 use Rattle.qap.specs.Polynomials.{Part, targetOf}
-use Rattle.evaluation.specs.declared.Three.{Three}
+use Rattle.evaluation.specs.declared.ThreeValues.{ThreeValues}
 
 -- the value at s of every list that is the part
 abbrev pub PartAt : List ℕ → List ℕ → ℕ → ℕ → ℕ → ℕ → ℕ → Type 0
@@ -19,7 +26,30 @@ abbrev pub BlindedAt : List ℕ → List ℕ → ℕ → ℕ → ℕ → ℕ →
 BlindedAt c a matrix from d s r = (f : List ℕ) → Part c a matrix from (columns c) f → r ≡ (value f s + d * value (targetOf c) s) % p
 
 -- of A, B and C
-pub record ThreeAt (c a : List ℕ) (from : ℕ) (d : Blinders) (s : ℕ) (r : Three) : Type 0 where
+pub record ThreeAt (c a : List ℕ) (from : ℕ) (d : Blinders) (s : ℕ) (r : ThreeValues) : Type 0 where
   pub first : BlindedAt c a 0 from (d .first) s (r .first)
   pub second : BlindedAt c a 1 from (d .second) s (r .second)
   pub third : BlindedAt c a 2 from (d .third) s (r .third)
+
+-- what `part_value` is given: the columns and their values are there, and a basis value for each row
+pub record PartGiven (c a : List ℕ) (matrix from to : ℕ) (basis : List ℕ) : Type 0 where
+  pub circuit : Formed c
+  pub of-three : matrix < 3
+  pub span : Span c a from to
+  pub size : length basis ≡ rows c
+
+pub record PartValue (c a : List ℕ) (matrix from to : ℕ) (basis : List ℕ) (r : ℕ) : Type 0 where
+  pub at : (s : ℕ) → BasisValues p (points c) s basis → PartAt c a matrix from to s r
+
+-- over the private columns; z is the target's value
+pub record PrivateParts (c a : List ℕ) (d : Blinders) (z : ℕ) (basis : List ℕ) (r : ThreeValues) : Type 0 where
+  pub at : (s : ℕ) → BasisAt p (rows c) s basis z → ThreeAt c a (publics c) d s r
+
+-- over all columns, for every circuit and assignment whose row sums the three lists are
+pub record WholeValues (sums-a sums-b sums-c : List ℕ) (d : Blinders) (z : ℕ) (basis : List ℕ) (r : ThreeValues) : Type 0 where
+  pub at : (c a : List ℕ) (s : ℕ) → Formed c → WholeSums c a sums-a sums-b sums-c → BasisAt p (rows c) s basis z → ThreeAt c a 0 d s r
+
+-- the word that is (u v − t) / z
+pub record QuotientValue (three : ThreeValues) (z r : ℕ) : Type 0 where
+  pub word : r < p
+  pub divides : three .first * three .second ≈⟨ p ⟩ three .third + z * r

@@ -1,9 +1,7 @@
 // The quotient that the box gives (RULES 4). The call asks nothing of its input; refused, it changes no word lent to it.
 ghost use mathlib.Core.Path.{_≡_};
-ghost use Prim.Native.Nat.{_+_, _≤_};
 ghost use lib.ListN.{length};
 ghost use Rattle.outcome.specs.Verdict.{Accepted};
-ghost use Rattle.circuit.specs.Circuit.{rows};
 ghost use Rattle.qap.specs.declared.Blinders.{Blinders};
 ghost use Rattle.qap.specs.Polynomials.{IsQuotient};
 ghost use Rattle.qap.specs.Refusals.{quotientVerdict};
@@ -25,32 +23,17 @@ fn quotient_verdict(circuit: &[u32], values: &[u32], d: Blinders, size: usize) -
     refusals::rows_verdict(circuit, values)
 }
 
-// The target in lent words, then the room, then its quotient.
-fn quotient_in(circuit: &[u32], values: &[u32], d: Blinders, z: &mut [u32], out: &mut [u32])
-    requires { ⌜ Accepted (quotientVerdict (now circuit) (now values) d (length (now out))) × (length (now z) ≡ length (now out)) ⌝ }
-    ensures { λ _. ⌜ IsQuotient (now (circuit .entry)) (now (values .entry)) d (now (out .exit)) ⌝ }
-{
-    let m = circuit::counts::rows_of(circuit);
-    let inverses = field::table::inverses();
-    poly::target(z);
-    let work = dividend::sides(circuit, values, d, m, z, &inverses);
-    dividend::take_quotient(work, m, z, out);
-}
-
-fn quotient_cut(circuit: &[u32], values: &[u32], d: Blinders, z: &mut [u32], out: &mut [u32])
-    requires { ⌜ Accepted (quotientVerdict (now circuit) (now values) d (length (now out))) × (257 ≤ length (now z)) ⌝ }
-    ensures { λ _. ⌜ IsQuotient (now (circuit .entry)) (now (values .entry)) d (now (out .exit)) ⌝ }
-{
-    let end = out.len();
-    quotient_in(circuit, values, d, &mut z[..end], out);
-}
-
+// The target, then the dividend, then its quotient.
 fn fill_quotient(circuit: &[u32], values: &[u32], d: Blinders, out: &mut [u32])
     requires { ⌜ Accepted (quotientVerdict (now circuit) (now values) d (length (now out))) ⌝ }
     ensures { λ _. ⌜ IsQuotient (now (circuit .entry)) (now (values .entry)) d (now (out .exit)) ⌝ }
 {
-    let mut z = [0u32; 257];
-    quotient_cut(circuit, values, d, &mut z, out);
+    let m = circuit::counts::rows_of(circuit);
+    let end = m + 1;
+    let mut z = slices::room();
+    poly::target(&mut z[..end]);
+    let dividend = dividend::dividend(circuit, values, d, m, &z[..end]);
+    dividend::take_quotient(dividend, m, &z[..end], out);
 }
 
 // The quotient H' of the blinded polynomials, into rows + 1 words.

@@ -6,7 +6,7 @@ use native.Mathlib.Omega.{arith}
 use borrow.Author.Needs.{needs}
 use Rattle.algebra.specs.Congruence.{Inverse}
 use Rattle.algebra.proofs.Congruence.{≈-refl}
-use Rattle.algebra.proofs.ConsecutiveBasis.{descent}
+use Rattle.algebra.specs.Basis.{descent}
 use Rattle.field.specs.Field.{p}
 use Rattle.basis.proofs.WeightLaws.{one-more}
 use Rattle.basis.proofs.first_weight.Statement.{statement}

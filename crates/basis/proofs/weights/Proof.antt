@@ -11,7 +11,8 @@ use lib.ListN.{length, getD, set, length-set}
 use lib.Seq.{getD-set-same, getD-set-other}
 use Rattle.algebra.specs.Congruence.{Inverse}
 use Rattle.algebra.specs.Points.{consecutive}
-use Rattle.algebra.proofs.ConsecutiveBasis.{ascent, descent, apartness-consecutive}
+use Rattle.algebra.specs.Basis.{descent}
+use Rattle.algebra.proofs.ConsecutiveBasis.{ascent, apartness-consecutive}
 use Rattle.algebra.proofs.Consecutive.{length-consecutive}
 use Rattle.field.specs.Field.{p}
 use Rattle.basis.proofs.WeightLaws.{moved-on, same-inverse}

@@ -18,8 +18,12 @@ blind-requires c κs =
     let start = c .before .before .before .before .before .before .before .before .before in
     let given = start .pre .0 in
     let made = c .before .before .before .whole-sums .ensures in (
-      (omega (arith, given .circuit .row-count .at-most, given .count), whole-size _ _ _ _ _ _ (given .count) (start .pre .2) made, whole-words _ _ _ _ _ _ (given .count) (start .pre .2) made),
-      (rw (given .count) (given .is-target), given .table),
+      record {
+        few = omega (arith, given .circuit .row-count .at-most, given .count);
+        is-target = rw (given .count) (given .is-target);
+        room = whole-size _ _ _ _ _ _ (given .count) (start .pre .2) made;
+      },
+      whole-words _ _ _ _ _ _ (given .count) (start .pre .2) made,
     )
 
 returns : tie.Need-returns
@@ -30,6 +34,5 @@ returns c =
     whole-blinded _ _ _ _ _ _ (given .count) (start .pre .2) made (c .before .before .blind .ensures)
 
 pub blinded-whole-spec : {M : Type 1} → statement M
-blinded-whole-spec =
-    tie.close
+blinded-whole-spec = tie.close
     (tie.spec (λ c. search needs) (λ c. sym (length-take-le _ _ (omega arith))) sums-requires blind-requires (λ c. search needs) returns)

@@ -1,4 +1,4 @@
--- The room's first 2 m + 1 words are divided by the target's words below its leading 1.
+-- The dividend's first 2 m + 1 words are divided by the target's words below its leading 1.
 use mathlib.Core.Path.{_≡_, sym, _∙_, ap}
 use mathlib.Core.List.{List}
 use Prim.Native.Nat.{ℕ, _+_, _-_, _≤_}
@@ -11,7 +11,7 @@ use Rattle.algebra.proofs.Consecutive.{length-consecutive}
 use Rattle.algebra.proofs.Target.{length-target}
 use Rattle.field.specs.Field.{p}
 use Rattle.poly.specs.Division.{division, quotient}
-use Rattle.dividend.specs.Room.{roomQuotient}
+use Rattle.dividend.specs.Dividend.{quotientOf}
 use Rattle.dividend.proofs.take_quotient.Statement.{statement}
 use Rattle.dividend.proofs.take_quotient.Tie as tie
 
@@ -19,15 +19,15 @@ use Rattle.dividend.proofs.take_quotient.Tie as tie
 size-low : (m : ℕ) {z : List ℕ} → z ≡ target p (consecutive 1 m) → length (take m z) ≡ m
 size-low m {z} e = length-take-le m z (omega (arith, ap length e, length-target p (consecutive 1 m), length-consecutive 1 m))
 
-size-work : (m : ℕ) (room : List ℕ) → m ≤ 256 → length room ≡ 513 → length (take (m + m + 1) room) ≡ m + m + 1
-size-work m room few size = length-take-le (m + m + 1) room (omega arith)
+size-work : (m : ℕ) (dividend : List ℕ) → m ≤ 256 → length dividend ≡ 513 → length (take (m + m + 1) dividend) ≡ m + m + 1
+size-work m dividend few size = length-take-le (m + m + 1) dividend (omega arith)
 
-divided : (m : ℕ) (room z out : List ℕ) {n : ℕ} → z ≡ target p (consecutive 1 m) → m ≤ 256 → length room ≡ 513 → n ≡ m + 1 →
-    out ≡ drop (length (take m z)) (division p (take m z) n (take (m + m + 1) room)) → out ≡ roomQuotient m room
-unfolding roomQuotient quotient
-divided m room z out {n} e few size count h =
+divided : (m : ℕ) (dividend z out : List ℕ) {n : ℕ} → z ≡ target p (consecutive 1 m) → m ≤ 256 → length dividend ≡ 513 → n ≡ m + 1 →
+    out ≡ drop (length (take m z)) (division p (take m z) n (take (m + m + 1) dividend)) → out ≡ quotientOf m dividend
+unfolding quotientOf quotient
+divided m dividend z out {n} e few size count h =
     let points = length-consecutive 1 m in
-    let words : length (take (m + m + 1) room) - m ≡ n = omega (arith, size-work m room few size) in
+    let words : length (take (m + m + 1) dividend) - m ≡ n = omega (arith, size-work m dividend few size) in
     h ∙ rw (size-low m e, e, points, words)
 
 aggregate : tie.Need-slice-aggregate-divide-into
@@ -36,15 +36,15 @@ aggregate c = sym (size-work _ _ (omega arith) (omega arith))
 requires : tie.Need-divide-into-requires
 requires c κs =
     let start = c .before .before .before .before .before in
-    let low = size-low _ (start .pre .1) in
-    let work = size-work (start .args .m) (start .args .room) (omega arith) (omega arith) in
-    (omega arith, omega arith)
+    let low = size-low _ (start .pre .is-target) in
+    let work = size-work (start .args .m) (start .args .dividend) (omega arith) (omega arith) in
+    omega arith
 
 returns : tie.Need-returns
 returns c =
     let d = c .before .before .before in
     let start = d .before .before .before .before .before .before in
-    divided (start .args .m) (start .args .room) _ _ (start .pre .1) (omega arith) (omega arith) (omega arith) (d .divide-into .ensures)
+    divided (start .args .m) (start .args .dividend) _ _ (start .pre .is-target) (omega arith) (omega arith) (omega arith) (d .divide-into .ensures)
 
 pub take-quotient-spec : {M : Type 1} → statement M
 take-quotient-spec =
@@ -54,7 +54,7 @@ take-quotient-spec =
     (λ c. search needs)
     (λ c. search needs)
     aggregate
-    (λ c. sym (size-low _ (c .before .before .before .before .pre .1)))
+    (λ c. sym (size-low _ (c .before .before .before .before .pre .is-target)))
     requires
     (λ c. search needs)
     returns)

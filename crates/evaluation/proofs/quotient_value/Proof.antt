@@ -24,14 +24,15 @@ divided u v t z i one =
 returns : tie.Need-returns
 returns c =
     let start = c .before .before .before .before in
-    let w = start .args .w in
+    let three = start .args .three in
     let z = start .args .z in
     let inverse = c .before .inverse .ensures .of-nonzero (start .pre) in
-    let all = c .times2 .ensures in (
-      rw all (mod-lt _ p-positive),
-      rw (all, c .before .before .minus .ensures, c .before .before .before .times .ensures)
-          (divided (w .first) (w .second) (w .third) z (c .before .inverse .result) (inverse .leaves-one)),
-    )
+    let all = c .times2 .ensures in
+    record {
+      word = rw all (mod-lt _ p-positive);
+      divides = rw (all, c .before .before .minus .ensures, c .before .before .before .times .ensures)
+          (divided (three .first) (three .second) (three .third) z (c .before .inverse .result) (inverse .leaves-one));
+    }
 
 pub quotient-value-spec : {M : Type 1} → statement M
 quotient-value-spec = tie.close (tie.spec (λ c κs. search needs) (λ c κs. search needs) (λ c κs. search needs) (λ c κs. search needs) returns)
