@@ -13,7 +13,7 @@ ghost use Rattle.poly.specs.Division.{division};
 
 pub mod interpolation;
 
-// Words of the longest product, that of two lists as long as a target of 256 rows (RULES 4).
+// Words of the work room of A'B' (RULES 4).
 pub const PRODUCT: usize = 513;
 
 // The value at s, from the top word down with one running word. Powers begin with 0.
@@ -88,7 +88,7 @@ pub fn add_product(room: &mut [u32], f: &[u32], g: &[u32])
     }
 }
 
-// The whole product of two lists of up to 257 words, in a work room that every such product fits.
+// The whole product of two lists of up to 257 words, in the work room of 513 words.
 pub fn product(f: &[u32], g: &[u32]) -> [u32; PRODUCT]
     requires { ⌜ (length (now f) ≤ 257) × (length (now g) ≤ 257) ⌝ }
     ensures { λ r. ⌜ r ≡ padded 513 (reduced p (product (now (f .entry)) (now (g .entry)))) ⌝ }
