@@ -63,7 +63,7 @@ pub fn public_words_verdict(circuit: &[u32], values: &[u32]) -> Outcome
 }
 
 // The circuit, then the assignment.
-fn assignment_verdict(circuit: &[u32], values: &[u32]) -> Outcome
+pub fn assignment_verdict(circuit: &[u32], values: &[u32]) -> Outcome
     ensures { λ r. ⌜ r ≡ circuitThenAssignment p (now (circuit .entry)) (now (values .entry)) ⌝ }
 {
     let read = reader::circuit_verdict(circuit);

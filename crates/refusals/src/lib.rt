@@ -8,6 +8,8 @@ ghost use Rattle.rows.specs.Rows.{rowsVerdict};
 ghost use Rattle.qap.specs.declared.Blinders.{Blinders};
 ghost use Rattle.qap.specs.declared.FourAnswers.{FourAnswers};
 ghost use Rattle.qap.specs.Refusals.{lengthVerdict, pointVerdict, blinderWords, answerWords, readyVerdict};
+ghost use Rattle.field.specs.Field.{p};
+ghost use Rattle.qap.specs.Setting.{standard};
 use outcome::Outcome;
 use outcome::require;
 use outcome::within;
@@ -23,8 +25,8 @@ pub fn length_verdict(given: usize, wanted: usize) -> Outcome
 
 // 11: a field word on no row.
 pub fn point_verdict(circuit: &[u32], s: u32) -> Outcome
-    requires { ⌜ Formed (now circuit) ⌝ }
-    ensures { λ r. ⌜ r ≡ pointVerdict (now (circuit .entry)) s ⌝ }
+    requires { ⌜ Formed p (now circuit) ⌝ }
+    ensures { λ r. ⌜ r ≡ pointVerdict standard (now (circuit .entry)) s ⌝ }
 {
     let m = circuit::counts::rows_of(circuit) as u32;
     require(s <= field::MINUS_ONE, 11, 0).and_then(require(!within(1, s, m), 11, 0))
@@ -32,7 +34,7 @@ pub fn point_verdict(circuit: &[u32], s: u32) -> Outcome
 
 // 12 over the three blinders.
 pub fn blinders_verdict(d: Blinders) -> Outcome
-    ensures { λ r. ⌜ r ≡ wordsVerdict 12 0 (blinderWords d) ⌝ }
+    ensures { λ r. ⌜ r ≡ wordsVerdict p 12 0 (blinderWords d) ⌝ }
 {
     let words = [d.first, d.second, d.third];
     assignment::words_verdict(&words, 12, 0)
@@ -40,7 +42,7 @@ pub fn blinders_verdict(d: Blinders) -> Outcome
 
 // Circuit, assignment and blinders, in the rules' order.
 pub fn ready_verdict(circuit: &[u32], values: &[u32], d: Blinders) -> Outcome
-    ensures { λ r. ⌜ r ≡ readyVerdict (now (circuit .entry)) (now (values .entry)) d ⌝ }
+    ensures { λ r. ⌜ r ≡ readyVerdict standard (now (circuit .entry)) (now (values .entry)) d ⌝ }
 {
     let read = reader::circuit_verdict(circuit);
     if read.number != 0 {
@@ -51,7 +53,7 @@ pub fn ready_verdict(circuit: &[u32], values: &[u32], d: Blinders) -> Outcome
 
 // 12 over the four answers.
 pub fn answers_verdict(r: FourAnswers) -> Outcome
-    ensures { λ o. ⌜ o ≡ wordsVerdict 12 0 (answerWords r) ⌝ }
+    ensures { λ o. ⌜ o ≡ wordsVerdict p 12 0 (answerWords r) ⌝ }
 {
     let words = [r.first, r.second, r.third, r.fourth];
     assignment::words_verdict(&words, 12, 0)
@@ -59,8 +61,8 @@ pub fn answers_verdict(r: FourAnswers) -> Outcome
 
 // 10 at the lowest failing row.
 pub fn rows_verdict(circuit: &[u32], values: &[u32]) -> Outcome
-    requires { ⌜ Formed (now circuit) × AssignmentFormed (now circuit) (now values) ⌝ }
-    ensures { λ r. ⌜ r ≡ rowsVerdict (now (circuit .entry)) (now (values .entry)) ⌝ }
+    requires { ⌜ Formed p (now circuit) × AssignmentFormed p (now circuit) (now values) ⌝ }
+    ensures { λ r. ⌜ r ≡ rowsVerdict p (now (circuit .entry)) (now (values .entry)) ⌝ }
 {
     let m = circuit::counts::rows_of(circuit);
     let mut a = slices::room();

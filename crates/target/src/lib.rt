@@ -6,6 +6,7 @@ ghost use Rattle.algebra.specs.Points.{consecutive, target};
 ghost use Rattle.field.specs.Field.{p};
 ghost use Rattle.qap.specs.Refusals.{targetVerdict};
 ghost use Rattle.qap.specs.Calls.{TargetCall};
+ghost use Rattle.qap.specs.Setting.{standard};
 use circuit::limits::MOST_ROWS;
 use outcome::Outcome;
 use outcome::require;
@@ -14,13 +15,13 @@ use refusals::length_verdict;
 
 // m alone, then the length wanted.
 fn target_verdict(m: u32, size: usize) -> Outcome
-    ensures { λ r. ⌜ r ≡ targetVerdict m size ⌝ }
+    ensures { λ r. ⌜ r ≡ targetVerdict standard m size ⌝ }
 {
     require(within(1, m, MOST_ROWS), 2, 0).and_then(length_verdict(size, m as usize + 1))
 }
 
 fn fill_target(m: u32, out: &mut [u32])
-    requires { ⌜ Accepted (targetVerdict m (length (now out))) ⌝ }
+    requires { ⌜ Accepted (targetVerdict standard m (length (now out))) ⌝ }
     ensures { λ _. ⌜ now (out .exit) ≡ target p (consecutive 1 m) ⌝ }
 {
     poly::target(out);
@@ -28,7 +29,7 @@ fn fill_target(m: u32, out: &mut [u32])
 
 // The target of m rows, into m + 1 words.
 pub fn target(m: u32, out: &mut [u32]) -> Outcome
-    ensures { λ r. ⌜ TargetCall m (now (out .entry)) (now (out .exit)) r ⌝ }
+    ensures { λ r. ⌜ TargetCall standard m (now (out .entry)) (now (out .exit)) r ⌝ }
 {
     let verdict = target_verdict(m, out.len());
     if verdict.number != 0 {
