@@ -17,7 +17,8 @@ use Rattle.circuit.proofs.Prefix.{leading-accepted}
 use Rattle.circuit.proofs.Sections.{ends-within}
 use Rattle.assignment.specs.Assignment.{wordsVerdict, assignmentVerdict}
 use Rattle.assignment.proofs.Accepted.{assignment-formed}
-use Rattle.qap.specs.Refusals.{blinderWords, pointVerdict, readyVerdict, answersVerdict}
+use Rattle.qap.specs.Polynomials.{blinderWords}
+use Rattle.qap.specs.Refusals.{pointVerdict, readyVerdict, answersVerdict}
 use Rattle.job_file.specs.File.{mostBytes, mostWords, assignmentOf, trailer, blindersOf, pointOf, sizeVerdict, trailerVerdict, fileVerdict, jobVerdict}
 use Rattle.job_file.specs.Given.{givenVerdict, restVerdict}
 use Rattle.job_file.specs.Read.{Split, Read}

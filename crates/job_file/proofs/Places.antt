@@ -18,7 +18,8 @@ use Rattle.assignment.specs.Assignment.{wordsVerdict, valuesVerdict, assignment
 use Rattle.assignment.proofs.Accepted.{each}
 use Rattle.rows.specs.Rows.{rowVerdict, rowsVerdict}
 use Rattle.qap.specs.declared.FourAnswers.{FourAnswers}
-use Rattle.qap.specs.Refusals.{blinderWords, answerWords, pointVerdict, lengthVerdict, checkAnswersVerdict}
+use Rattle.qap.specs.Polynomials.{blinderWords}
+use Rattle.qap.specs.Refusals.{answerWords, pointVerdict, lengthVerdict, checkAnswersVerdict}
 use Rattle.job_file.specs.File.{assignmentOf, blindersOf, pointOf, sizeVerdict, trailerVerdict, fileVerdict, jobVerdict}
 use Rattle.job_file.proofs.FileLaws.{file-ready}
 

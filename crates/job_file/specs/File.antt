@@ -11,7 +11,8 @@ use Rattle.circuit.specs.Reader.{prefixVerdict}
 use Rattle.assignment.specs.Assignment.{wordsVerdict, assignmentVerdict}
 use Rattle.rows.specs.Rows.{rowsVerdict}
 use Rattle.qap.specs.declared.Blinders.{Blinders}
-use Rattle.qap.specs.Refusals.{blinderWords, pointVerdict}
+use Rattle.qap.specs.Polynomials.{blinderWords}
+use Rattle.qap.specs.Refusals.{pointVerdict}
 
 -- how a file's words are split: the circuit at their front is `leading w`
 

@@ -9,7 +9,8 @@ use Rattle.outcome.specs.Verdict.{_andThen_}
 use Rattle.circuit.specs.Circuit.{word, columns}
 use Rattle.assignment.specs.Assignment.{wordsVerdict, assignmentVerdict}
 use Rattle.qap.specs.declared.Blinders.{Blinders}
-use Rattle.qap.specs.Refusals.{blinderWords, pointVerdict}
+use Rattle.qap.specs.Polynomials.{blinderWords}
+use Rattle.qap.specs.Refusals.{pointVerdict}
 use Rattle.job_file.specs.File.{trailerVerdict}
 
 abbrev pub blindersIn : List ℕ → Blinders

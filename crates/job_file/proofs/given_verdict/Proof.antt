@@ -8,7 +8,7 @@ use Rattle.outcome.proofs.Chain.{chained, called, called-refused}
 use Rattle.outcome.proofs.Verdict.{is-accepted, accepted-parts, andThen-assoc}
 use Rattle.assignment.specs.Assignment.{wordsVerdict, assignmentVerdict}
 use Rattle.qap.specs.declared.Blinders.{Blinders}
-use Rattle.qap.specs.Refusals.{blinderWords}
+use Rattle.qap.specs.Polynomials.{blinderWords}
 use Rattle.job_file.specs.File.{trailerVerdict}
 use Rattle.job_file.specs.Given.{givenVerdict}
 use Rattle.job_file.proofs.FileLaws.{trailer-six}

@@ -5,11 +5,12 @@ use native.Mathlib.Omega.{arith}
 use borrow.Author.Needs.{needs}
 use Rattle.circuit.specs.Limits.{mostRows}
 use Rattle.slices.proofs.Rooms.{Front, front}
+use Rattle.circuit.proofs.Rows.{row-range}
 use Rattle.refusals.proofs.rows_verdict.Statement.{statement}
 use Rattle.refusals.proofs.rows_verdict.Tie as tie
 
 few : (c : tie.After-rows-of) → c .rows-of .result ≤ mostRows
-few c = let start = c .before .before .before in omega (arith, c .rows-of .ensures, start .pre .0 .row-count .at-most)
+few c = let start = c .before .before .before in omega (arith, c .rows-of .ensures, row-range (start .pre .0) .at-most)
 
 a-front : (c : tie.After-room) → Front (c .before .rows-of .result) (c .room .result)
 a-front c = front _ _ (omega (arith, few (c .before))) (c .room .ensures)
