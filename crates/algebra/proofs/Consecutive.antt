@@ -4,7 +4,7 @@ use Prim.Native.Nat.{ℕ, zero, suc, _+_, _<_, _≤_}
 use native.Mathlib.Omega.{arith}
 use lib.ListN.{length, getD}
 use Rattle.algebra.specs.Congruence.{_≈⟨_⟩_}
-use Rattle.algebra.specs.Points.{consecutive, Distinct}
+use Rattle.algebra.specs.Points.{consecutive, rowPoints, Distinct}
 use Rattle.algebra.proofs.Congruence.{≈-words, by}
 
 pub length-consecutive : (x m : ℕ) → length (consecutive x m) ≡ m
@@ -27,3 +27,14 @@ distinct-consecutive {p} x m few = record { apart = apart }
         let sums : x + i ≈⟨ p ⟩ x + j = rw (consecutive-at x m i (omega arith), consecutive-at x m j below) at h in
         let same : i ≡ j = ≈-words (by sums (omega arith)) (omega arith) (omega arith) in
         omega arith
+
+-- the points of m rows
+
+pub length-rowPoints : (m : ℕ) → length (rowPoints m) ≡ m
+length-rowPoints m = length-consecutive 1 m
+
+pub rowPoints-at : (m i : ℕ) → i < m → getD (rowPoints m) i 0 ≡ suc i
+rowPoints-at m i l = omega (arith, consecutive-at 1 m i l)
+
+pub distinct-rowPoints : {p : ℕ} (m : ℕ) → m ≤ p → Distinct p (rowPoints m)
+distinct-rowPoints m few = distinct-consecutive 1 m few

@@ -20,6 +20,7 @@ use Rattle.qap.proofs.Parts.{part-exists}
 use Rattle.qap.proofs.Settings.{distinct-points}
 use Rattle.refusals.specs.Decides.{Decides}
 use Rattle.refusals.proofs.Deciding.{decides-other}
+use Rattle.qap.specs.Setting.{standard}
 
 -- reduced words are equal exactly where what they stand for is congruent
 module _ (r : FourAnswers) (part-a part-b part-c z : ℕ) {u v t x y : ℕ} (first : u ≡ (r .first + part-a) % p) (second : v ≡ (r .second + part-b) % p)
@@ -44,24 +45,24 @@ pub public-value : {c b basis : List ℕ} {matrix q x z : ℕ} (s : ℕ) → q �
     PartValue c b matrix 0 q basis x → PublicAt c b matrix s x
 public-value s count at found f part = found .at s (at .values) f (rw count part)
 
-module _ (c b : List ℕ) (accepted : Accepted (circuitVerdict c)) where
+module _ (c b : List ℕ) (accepted : Accepted (circuitVerdict p c)) where
   module _ (s : ℕ) (r : FourAnswers) {basis : List ℕ} {z A B C : ℕ} (at : BasisAt p (rows c) s basis z)
       (first : PublicAt c b 0 s A) (second : PublicAt c b 1 s B) (third : PublicAt c b 2 s C) where
-    near : {matrix x : ℕ} {f : List ℕ} → PublicAt c b matrix s x → PublicPart c b matrix f → x ≈⟨ p ⟩ value f s
+    near : {matrix x : ℕ} {f : List ℕ} → PublicAt c b matrix s x → PublicPart standard c b matrix f → x ≈⟨ p ⟩ value f s
     near {f = f} v part = rw (v f part) (≈-reduced p (value f s))
 
-    target-near : z ≈⟨ p ⟩ value (targetOf c) s
-    target-near = rw (at .target-at) (≈-reduced p (value (targetOf c) s))
+    target-near : z ≈⟨ p ⟩ value (targetOf standard c) s
+    target-near = rw (at .target-at) (≈-reduced p (value (targetOf standard c) s))
 
-    module _ {f g h : List ℕ} (F : PublicPart c b 0 f) (G : PublicPart c b 1 g) (H : PublicPart c b 2 h) where
+    module _ {f g h : List ℕ} (F : PublicPart standard c b 0 f) (G : PublicPart standard c b 1 g) (H : PublicPart standard c b 2 h) where
       left-near : (r .first + A) * (r .second + B) ≈⟨ p ⟩ (r .first + value f s) * (r .second + value g s)
       left-near = ≈-product (≈-plus (≈-refl p (r .first)) (near first F)) (≈-plus (≈-refl p (r .second)) (near second G))
 
-      right-near : (r .third + C) + z * r .fourth ≈⟨ p ⟩ (r .third + value h s) + value (targetOf c) s * r .fourth
+      right-near : (r .third + C) + z * r .fourth ≈⟨ p ⟩ (r .third + value h s) + value (targetOf standard c) s * r .fourth
       right-near = ≈-plus (≈-plus (≈-refl p (r .third)) (near third H)) (≈-product target-near (≈-refl p (r .fourth)))
 
     pub answers-decided : {x : Bool} → Decides ((r .first + A) * (r .second + B) ≈⟨ p ⟩ (r .third + C) + z * r .fourth) x →
-        Decides (AnswersAgree c b s r) x
+        Decides (AnswersAgree standard c b s r) x
     answers-decided = decides-other
         (λ e.
         let (f, F) = part-exists c b 0 0 (publics c) (distinct-points c accepted) in

@@ -9,11 +9,12 @@ ghost use Rattle.qap.specs.Answers.{AnswersAgree};
 ghost use Rattle.qap.specs.Refusals.{checkAnswersVerdict};
 ghost use Rattle.qap.specs.Calls.{CheckAnswersCall};
 ghost use Rattle.refusals.specs.Decides.{Decides};
+ghost use Rattle.qap.specs.Setting.{standard};
 use outcome::Outcome;
 use qap::FourAnswers;
 
 fn check_answers_verdict(circuit: &[u32], section: &[u32], s: u32, r: FourAnswers) -> Outcome
-    ensures { λ o. ⌜ o ≡ checkAnswersVerdict (now (circuit .entry)) (now (section .entry)) s r ⌝ }
+    ensures { λ o. ⌜ o ≡ checkAnswersVerdict standard (now (circuit .entry)) (now (section .entry)) s r ⌝ }
 {
     let read = reader::circuit_verdict(circuit);
     if read.number != 0 {
@@ -45,8 +46,8 @@ fn words_agree(r: FourAnswers, part_a: u32, part_b: u32, part_c: u32, z: u32) ->
 
 // The answer check's equality at s.
 fn answers_agree(circuit: &[u32], section: &[u32], s: u32, r: FourAnswers) -> bool
-    requires { ⌜ Accepted (checkAnswersVerdict (now circuit) (now section) s r) ⌝ }
-    ensures { λ x. ⌜ Decides (AnswersAgree (now (circuit .entry)) (now (section .entry)) s r) x ⌝ }
+    requires { ⌜ Accepted (checkAnswersVerdict standard (now circuit) (now section) s r) ⌝ }
+    ensures { λ x. ⌜ Decides (AnswersAgree standard (now (circuit .entry)) (now (section .entry)) s r) x ⌝ }
 {
     let m = circuit::counts::rows_of(circuit);
     let q = circuit::counts::publics_of(circuit);
@@ -61,7 +62,7 @@ fn answers_agree(circuit: &[u32], section: &[u32], s: u32, r: FourAnswers) -> bo
 
 // Four answers to the point s, beside a public section.
 pub fn check_answers(circuit: &[u32], section: &[u32], s: u32, r: FourAnswers) -> Outcome
-    ensures { λ o. ⌜ CheckAnswersCall (now (circuit .entry)) (now (section .entry)) s r o ⌝ }
+    ensures { λ o. ⌜ CheckAnswersCall standard (now (circuit .entry)) (now (section .entry)) s r o ⌝ }
 {
     let verdict = check_answers_verdict(circuit, section, s, r);
     if verdict.number != 0 {

@@ -24,16 +24,17 @@ use Rattle.qap.proofs.Parts.{part-exists}
 use Rattle.qap.proofs.Quotients.{quotient-exists}
 use Rattle.evaluation.specs.declared.ThreeValues.{ThreeValues}
 use Rattle.evaluation.specs.Values.{ThreeAt}
+use Rattle.qap.specs.Setting.{standard}
 
-module _ (c a : List ℕ) (distinct : Distinct p (points c)) (d : Blinders) (s : ℕ) (off : value (targetOf c) s ≈⟨ p ⟩ 0 → ⊥) where
+module _ (c a : List ℕ) (distinct : Distinct p (points c)) (d : Blinders) (s : ℕ) (off : value (targetOf standard c) s ≈⟨ p ⟩ 0 → ⊥) where
   -- the word of A + d Z at s is the blinded polynomial there
-  word-at : (f : List ℕ) (k : ℕ) {r : ℕ} → r ≡ (value f s + k * value (targetOf c) s) % p → r ≈⟨ p ⟩ value (blinded p (points c) f k) s
-  word-at f k e = rw (e, value-sum, value-multiple) (≈-reduced p (value f s + k * value (targetOf c) s))
+  word-at : (f : List ℕ) (k : ℕ) {r : ℕ} → r ≡ (value f s + k * value (targetOf standard c) s) % p → r ≈⟨ p ⟩ value (blinded p (points c) f k) s
+  word-at f k e = rw (e, value-sum, value-multiple) (≈-reduced p (value f s + k * value (targetOf standard c) s))
 
-  fourth-word : {h : List ℕ} {w : ThreeValues} {z r : ℕ} → IsQuotient c a d h → ThreeAt c a 0 d s w → z ≡ value (targetOf c) s % p → r < p →
+  fourth-word : {h : List ℕ} {w : ThreeValues} {z r : ℕ} → IsQuotient standard c a d h → ThreeAt c a 0 d s w → z ≡ value (targetOf standard c) s % p → r < p →
       w .first * w .second ≈⟨ p ⟩ w .third + z * r → r ≡ value h s % p
   fourth-word {h} {w} {z} {r} q all is-z below e =
-      let Z = value (targetOf c) s in
+      let Z = value (targetOf standard c) s in
       let u = word-at (q .A) (d .first) (all .first (q .A) (q .whole-A)) in
       let v = word-at (q .B) (d .second) (all .second (q .B) (q .whole-B)) in
       let t = word-at (q .C) (d .third) (all .third (q .C) (q .whole-C)) in
@@ -44,9 +45,9 @@ module _ (c a : List ℕ) (distinct : Distinct p (points c)) (d : Blinders) (s :
       (omega arith) in
       ≈-words (≈-trans (cancel p-prime Z off same) (≈-sym (≈-reduced p (value h s)))) below (mod-lt (value h s) p-positive)
 
-  pub four-answers : RowsHold c a → {own all : ThreeValues} {z r : ℕ} → ThreeAt c a (publics c) d s own → ThreeAt c a 0 d s all → z ≡ value (targetOf c) s % p →
+  pub four-answers : RowsHold p c a → {own all : ThreeValues} {z r : ℕ} → ThreeAt c a (publics c) d s own → ThreeAt c a 0 d s all → z ≡ value (targetOf standard c) s % p →
       r < p → all .first * all .second ≈⟨ p ⟩ all .third + z * r →
-      IsAnswers c a d s (record { first = own .first; second = own .second; third = own .third; fourth = r })
+      IsAnswers standard c a d s (record { first = own .first; second = own .second; third = own .third; fourth = r })
   four-answers hold {own} {all} mine whole is-z below e =
       let (A, private-A) = part-exists c a 0 (publics c) (columns c) distinct in
       let (B, private-B) = part-exists c a 1 (publics c) (columns c) distinct in

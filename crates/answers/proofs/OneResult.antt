@@ -12,12 +12,14 @@ use Rattle.qap.specs.declared.FourAnswers.{FourAnswers}
 use Rattle.qap.specs.Refusals.{readyVerdict}
 use Rattle.qap.proofs.Settings.{ready, distinct-points}
 use Rattle.qap.proofs.Determined.{answers-unique}
+use Rattle.field.specs.Field.{p}
+use Rattle.qap.specs.Setting.{standard}
 use Rattle.answers.specs.RowsAnswered.{RowsAnswered}
 
-pub answer-rows-determined : (c a : List ℕ) (d : Blinders) (s : ℕ) → Accepted (readyVerdict c a d) → {o o' : Outcome} {r r' : FourAnswers} →
+pub answer-rows-determined : (c a : List ℕ) (d : Blinders) (s : ℕ) → Accepted (readyVerdict standard c a d) → {o o' : Outcome} {r r' : FourAnswers} →
     RowsAnswered c a d s o r → RowsAnswered c a d s o' r' → (o ≡ o') × (r ≡ r')
 answer-rows-determined c a d s accepted x y = (
   x .number-and-place ∙ sym (y .number-and-place),
-  ⊎-elim (λ h. answers-unique c a (distinct-points c (ready c a d accepted .circuit)) d s (x .done h) (y .done h))
-      (λ h. x .none h ∙ sym (y .none h)) (accepted-or-refused (rowsVerdict c a)),
+  ⊎-elim (λ h. answers-unique c a (distinct-points c (ready standard c a d accepted .circuit)) d s (x .done h) (y .done h))
+      (λ h. x .none h ∙ sym (y .none h)) (accepted-or-refused (rowsVerdict p c a)),
 )

@@ -11,13 +11,15 @@ use Rattle.qap.specs.declared.FourAnswers.{FourAnswers}
 use Rattle.qap.specs.Answers.{IsAnswers}
 use Rattle.qap.specs.Refusals.{answersVerdict}
 use Rattle.qap.specs.Calls.{noAnswers}
+use Rattle.field.specs.Field.{p}
+use Rattle.qap.specs.Setting.{standard}
 
 pub record RowsAnswered (c a : List ℕ) (d : Blinders) (s : ℕ) (o : Outcome) (r : FourAnswers) : Type 0 where
-  pub number-and-place : o ≡ rowsVerdict c a
-  pub done : Accepted (rowsVerdict c a) → IsAnswers c a d s r
-  pub none : Refused (rowsVerdict c a) → r ≡ noAnswers
+  pub number-and-place : o ≡ rowsVerdict p c a
+  pub done : Accepted (rowsVerdict p c a) → IsAnswers standard c a d s r
+  pub none : Refused (rowsVerdict p c a) → r ≡ noAnswers
 
 -- all checks passed, and the row sums over all columns are at hand
 pub record AnswersGiven (c a : List ℕ) (d : Blinders) (s : ℕ) (sums-a sums-b sums-c : List ℕ) : Type 0 where
-  pub accepted : Accepted (answersVerdict c a d s)
-  pub sums : WholeSums c a sums-a sums-b sums-c
+  pub accepted : Accepted (answersVerdict standard c a d s)
+  pub sums : WholeSums p c a sums-a sums-b sums-c

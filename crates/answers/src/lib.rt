@@ -5,22 +5,23 @@ ghost use Rattle.qap.specs.declared.Blinders.{Blinders};
 ghost use Rattle.qap.specs.Answers.{IsAnswers};
 ghost use Rattle.qap.specs.Refusals.{readyVerdict, pointVerdict};
 ghost use Rattle.qap.specs.Calls.{noAnswers, AnswersCall};
+ghost use Rattle.qap.specs.Setting.{standard};
 ghost use Rattle.answers.specs.RowsAnswered.{AnswersGiven, RowsAnswered};
 use outcome::Outcome;
 use qap::Blinders;
 use qap::FourAnswers;
 
 // What the answers call gives back: number and place, and the four answers, all 0 where the number is not 0.
-pub struct Answered {
+pub struct Answered standard {
     pub outcome: Outcome,
     pub numbers: FourAnswers,
 }
 
 // A refusal: no answers.
-fn none(outcome: Outcome) -> Answered
+fn none(outcome: Outcome) -> Answered standard
     ensures { λ r. ⌜ (r .outcome ≡ outcome) × (r .numbers ≡ noAnswers) ⌝ }
 {
-    Answered {
+    Answered standard {
         outcome: outcome,
         numbers: FourAnswers {
             first: 0,
@@ -42,7 +43,7 @@ fn four_answers(
     sums_c: &[u32],
 ) -> FourAnswers
     requires { ⌜ AnswersGiven (now circuit) (now values) d s (now «sums_a») (now «sums_b») (now «sums_c») ⌝ }
-    ensures { λ r. ⌜ IsAnswers (now (circuit .entry)) (now (values .entry)) d s r ⌝ }
+    ensures { λ r. ⌜ IsAnswers standard (now (circuit .entry)) (now (values .entry)) d s r ⌝ }
 {
     let m = sums_a.len();
     let inverses = field::table::inverses();
@@ -59,8 +60,8 @@ fn four_answers(
 }
 
 // What the call gives once the checks before 10 have passed. The row sums over all columns serve 10 and the fourth answer.
-pub fn answer_rows(circuit: &[u32], values: &[u32], d: Blinders, s: u32) -> Answered
-    requires { ⌜ Accepted (readyVerdict (now circuit) (now values) d) × Accepted (pointVerdict (now circuit) s) ⌝ }
+pub fn answer_rows(circuit: &[u32], values: &[u32], d: Blinders, s: u32) -> Answered standard
+    requires { ⌜ Accepted (readyVerdict standard (now circuit) (now values) d) × Accepted (pointVerdict standard (now circuit) s) ⌝ }
     ensures { λ r. ⌜ RowsAnswered (now (circuit .entry)) (now (values .entry)) d s (r .outcome) (r .numbers) ⌝ }
 {
     let m = circuit::counts::rows_of(circuit);
@@ -86,15 +87,15 @@ pub fn answer_rows(circuit: &[u32], values: &[u32], d: Blinders, s: u32) -> Answ
         &sums_b[..m],
         &sums_c[..m],
     );
-    Answered {
+    Answered standard {
         outcome: hold,
         numbers,
     }
 }
 
 // The four answers at s.
-pub fn answers(circuit: &[u32], values: &[u32], d: Blinders, s: u32) -> Answered
-    ensures { λ r. ⌜ AnswersCall (now (circuit .entry)) (now (values .entry)) d s (r .outcome) (r .numbers) ⌝ }
+pub fn answers(circuit: &[u32], values: &[u32], d: Blinders, s: u32) -> Answered standard
+    ensures { λ r. ⌜ AnswersCall standard (now (circuit .entry)) (now (values .entry)) d s (r .outcome) (r .numbers) ⌝ }
 {
     let ready = refusals::ready_verdict(circuit, values, d);
     if ready.number != 0 {

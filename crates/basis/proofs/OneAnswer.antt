@@ -12,7 +12,7 @@ use Rattle.algebra.specs.Points.{Distinct, Through}
 use Rattle.algebra.specs.Basis.{BasisWeights, BasisValues}
 use Rattle.algebra.specs.Combination.{total}
 use Rattle.algebra.proofs.Inverse.{inverse-unique}
-use Rattle.algebra.proofs.Consecutive.{distinct-consecutive}
+use Rattle.algebra.proofs.Consecutive.{distinct-rowPoints}
 use Rattle.algebra.proofs.Lagrange.{basis-value, basis-unique}
 use Rattle.basis.specs.BasisAt.{BasisAt}
 
@@ -23,7 +23,7 @@ module _ {p : ℕ} (prime : Prime p) where
       inverse-unique prime (h .inverse i inside) (k .inverse i inside))
 
   pub basis-at-unique : {m s z w : ℕ} {bs cs : List ℕ} → m < p → BasisAt p m s bs z → BasisAt p m s cs w → (bs ≡ cs) × (z ≡ w)
-  basis-at-unique {m} few h k = (basis-unique prime (distinct-consecutive 1 m (omega arith)) (h .values) (k .values), cc)
+  basis-at-unique {m} few h k = (basis-unique prime (distinct-rowPoints m (omega arith)) (h .values) (k .values), cc)
 
   -- what `dot` gives for basis values at s
   pub dot-value : {xs : List ℕ} → Distinct p xs → (s : ℕ) (y : List ℕ) {bs f : List ℕ} {r : ℕ} → BasisValues p xs s bs →

@@ -8,11 +8,11 @@ use native.Mathlib.Omega.{arith}
 use lib.ListN.{length, getD}
 use Rattle.algebra.specs.Congruence.{_≈⟨_⟩_, negative}
 use Rattle.algebra.specs.Polynomial.{value}
-use Rattle.algebra.specs.Points.{consecutive, target}
+use Rattle.algebra.specs.Points.{consecutive, rowPoints, target}
 use Rattle.algebra.specs.Basis.{apartness, others, BasisWeights, BasisValues}
 use Rattle.algebra.proofs.Congruence.{≈-eq, ≈-sym, ≈-trans, ≈-plus, ≈-times, ≈-product, ≈-reduced, by}
 use Rattle.algebra.proofs.Target.{target-value}
-use Rattle.algebra.proofs.Consecutive.{length-consecutive}
+use Rattle.algebra.proofs.Consecutive.{length-rowPoints}
 use Rattle.algebra.proofs.ConsecutiveBasis.{value-none, target-append, consecutive-last, without-consecutive}
 use Rattle.basis.specs.BasisAt.{BasisAt}
 use Rattle.basis.specs.Passes.{mapped, pointsBefore, pointsFrom, timesBefore, timesAfter}
@@ -54,12 +54,12 @@ module _ (p s : ℕ) where
   unfolding pointsBefore
   next-before i =
       let y = 1 + i in
-      let v = value (target p (consecutive 1 i)) s in
+      let v = value (target p (rowPoints i)) s in
       let k = negative p y + s in
       let last : value (target p (y ∷ [])) s ≈⟨ p ⟩ k =
       by (target-value p y [] s) (omega (arith, ap (λ (t : ℕ). k * t) (value-none p s))) in
       rw (consecutive-last 1 i)
-      (≈-trans (target-append p (consecutive 1 i) (y ∷ []) s) (by (≈-times v last) (omega arith)))
+      (≈-trans (target-append p (rowPoints i) (y ∷ []) s) (by (≈-times v last) (omega arith)))
 
   pub next-from : (m i : ℕ) → i < m → pointsFrom p m s i ≈⟨ p ⟩ (negative p (suc i) + s) * pointsFrom p m s (suc i)
   unfolding pointsFrom consecutive
@@ -68,12 +68,12 @@ module _ (p s : ℕ) where
       rw left (target-value p (suc i) (consecutive (suc (suc i)) (m - suc i)) s)
 
   -- all points but number i are those before it and those after it
-  others-parts : (m i : ℕ) → i < m → others p (consecutive 1 m) i s ≈⟨ p ⟩ pointsBefore p s i * pointsFrom p m s (suc i)
+  others-parts : (m i : ℕ) → i < m → others p (rowPoints m) i s ≈⟨ p ⟩ pointsBefore p s i * pointsFrom p m s (suc i)
   unfolding pointsBefore pointsFrom
   others-parts m i l =
       let after : suc (1 + i) ≡ suc (suc i) = omega arith in
       rw (without-consecutive 1 m i l, after)
-      (target-append p (consecutive 1 i) (consecutive (suc (suc i)) (m - suc i)) s)
+      (target-append p (rowPoints i) (consecutive (suc (suc i)) (m - suc i)) s)
 
   -- both passes over the word of point number i
   both-passes : (f : List ℕ) (i : ℕ) → i < length f →
@@ -85,8 +85,8 @@ module _ (p s : ℕ) where
       mapped-at (λ j a. a * pointsFrom p (length b) s (suc j) % p) 0 b i (omega arith) ∙
       rw (zero-add, size, mapped-at (λ j a. a * pointsBefore p s j % p) 0 f i l, zero-add)
 
-  pub passes-values : (m : ℕ) → 0 < p → {ws : List ℕ} → BasisWeights p (consecutive 1 m) ws →
-      BasisValues p (consecutive 1 m) s (timesAfter p s (timesBefore p s ws))
+  pub passes-values : (m : ℕ) → 0 < p → {ws : List ℕ} → BasisWeights p (rowPoints m) ws →
+      BasisValues p (rowPoints m) s (timesAfter p s (timesBefore p s ws))
   unfolding timesAfter timesBefore
   passes-values m pos {ws} h = record {
     size = all;
@@ -94,18 +94,18 @@ module _ (p s : ℕ) where
     at-point = at;
   }
     where
-      all : length (timesAfter p s (timesBefore p s ws)) ≡ length (consecutive 1 m)
+      all : length (timesAfter p s (timesBefore p s ws)) ≡ length (rowPoints m)
       all = length-mapped _ 0 (timesBefore p s ws) ∙ length-mapped _ 0 ws ∙ h .size
 
-      at : (i : ℕ) → i < length (consecutive 1 m) →
-          getD (timesAfter p s (timesBefore p s ws)) i 0 * apartness p (consecutive 1 m) i ≈⟨ p ⟩ others p (consecutive 1 m) i s
+      at : (i : ℕ) → i < length (rowPoints m) →
+          getD (timesAfter p s (timesBefore p s ws)) i 0 * apartness p (rowPoints m) i ≈⟨ p ⟩ others p (rowPoints m) i s
       at i l =
-          let size : length ws ≡ m = h .size ∙ length-consecutive 1 m in
+          let size : length ws ≡ m = h .size ∙ length-rowPoints m in
           let inside : i < m = omega (arith, h .size) in
           let w = getD ws i 0 in
           let b = pointsBefore p s i in
           let f = pointsFrom p m s (suc i) in
-          let a = apartness p (consecutive 1 m) i in
+          let a = apartness p (rowPoints m) i in
           rw (both-passes ws i (omega arith), size)
           (by
           (≈-plus
@@ -114,9 +114,9 @@ module _ (p s : ℕ) where
           (omega arith))
 
   -- what the weights and the two passes leave
-  pub passes-at : (m : ℕ) → 0 < p → {ws us bs : List ℕ} {z : ℕ} → BasisWeights p (consecutive 1 m) ws → us ≡ timesBefore p s ws →
+  pub passes-at : (m : ℕ) → 0 < p → {ws us bs : List ℕ} {z : ℕ} → BasisWeights p (rowPoints m) ws → us ≡ timesBefore p s ws →
       z ≡ pointsBefore p s (length ws) % p → bs ≡ timesAfter p s us → BasisAt p m s bs z
   unfolding pointsBefore
   passes-at m pos h before z after =
-      let size = h .size ∙ length-consecutive 1 m in
+      let size = h .size ∙ length-rowPoints m in
       record { values = rw (after, before) (passes-values m pos h); target-at = rw size at z }

@@ -4,9 +4,9 @@ use mathlib.Core.Path.{_≡_}
 use mathlib.Core.List.{List}
 use Prim.Native.Nat.{ℕ, _%_}
 use Rattle.algebra.specs.Polynomial.{value}
-use Rattle.algebra.specs.Points.{consecutive, target}
+use Rattle.algebra.specs.Points.{rowPoints, target}
 use Rattle.algebra.specs.Basis.{BasisValues}
 
 pub record BasisAt (p m s : ℕ) (bs : List ℕ) (z : ℕ) : Type 0 where
-  pub values : BasisValues p (consecutive 1 m) s bs
-  pub target-at : z ≡ value (target p (consecutive 1 m)) s % p
+  pub values : BasisValues p (rowPoints m) s bs
+  pub target-at : z ≡ value (target p (rowPoints m)) s % p

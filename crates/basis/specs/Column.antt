@@ -6,14 +6,14 @@ use Prim.Native.Nat.{ℕ, _+_, _<_, _≤_}
 use lib.ListN.{length, getD}
 use Rattle.algebra.specs.Congruence.{_≈⟨_⟩_}
 use Rattle.algebra.specs.Polynomial.{Words, value}
-use Rattle.algebra.specs.Points.{consecutive, target}
+use Rattle.algebra.specs.Points.{rowPoints, target}
 use Rattle.algebra.specs.Basis.{BasisWeights}
 
 -- the target and the basis weights of the points 1..m, of which there are at most 256
 pub record Prepared (p m : ℕ) (z ws : List ℕ) : Type 0 where
   pub few : m ≤ 256
-  pub is-target : z ≡ target p (consecutive 1 m)
-  pub are-weights : BasisWeights p (consecutive 1 m) ws
+  pub is-target : z ≡ target p (rowPoints m)
+  pub are-weights : BasisWeights p (rowPoints m) ws
 
 -- at the first n points new takes what old takes plus y, and at the others what old takes
 pub record AddedFirst (p : ℕ) (xs : List ℕ) (y : ℕ → ℕ) (n : ℕ) (old new : List ℕ) : Type 0 where

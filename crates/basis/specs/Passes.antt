@@ -4,7 +4,7 @@ use mathlib.Core.List.{List, [], _∷_}
 use Prim.Native.Nat.{ℕ, suc, _*_, _-_, _%_}
 use lib.ListN.{length}
 use Rattle.algebra.specs.Polynomial.{value}
-use Rattle.algebra.specs.Points.{consecutive, target}
+use Rattle.algebra.specs.Points.{consecutive, rowPoints, target}
 
 -- each word by its number, where the first one's number is i
 unfoldable pub mapped : (ℕ → ℕ → ℕ) → ℕ → List ℕ → List ℕ
@@ -13,7 +13,7 @@ mapped g i (a ∷ f) = g i a ∷ mapped g (suc i) f
 
 -- all (s − x) of the points before number i
 unfoldable pub pointsBefore : ℕ → ℕ → ℕ → ℕ
-pointsBefore p s i = value (target p (consecutive 1 i)) s
+pointsBefore p s i = value (target p (rowPoints i)) s
 
 -- all (s − x) of the points from number i on, of m
 unfoldable pub pointsFrom : ℕ → ℕ → ℕ → ℕ → ℕ

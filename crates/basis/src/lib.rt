@@ -6,7 +6,7 @@ ghost use Prim.Native.Nat.{_*_, _%_, _≤_, _<_};
 ghost use lib.ListN.{length, getD};
 ghost use Rattle.algebra.specs.Congruence.{Inverse};
 ghost use Rattle.algebra.specs.Polynomial.{Words};
-ghost use Rattle.algebra.specs.Points.{consecutive, Through};
+ghost use Rattle.algebra.specs.Points.{rowPoints, Through};
 ghost use Rattle.algebra.specs.Basis.{BasisWeights, descent};
 ghost use Rattle.algebra.specs.Combination.{total};
 ghost use Rattle.field.specs.Field.{p, InverseTable};
@@ -16,7 +16,7 @@ ghost use Rattle.basis.specs.Column.{Prepared, AddedFirst};
 
 // The inverse of −1 · −2 · .. · −after: the weight of the first point, with as many points after it.
 fn first_weight(after: usize, inverses: &[u32; 256]) -> u32
-    requires { ⌜ (after ≤ 256) × InverseTable (now inverses) ⌝ }
+    requires { ⌜ (after ≤ 256) × InverseTable p (now inverses) ⌝ }
     ensures { λ r. ⌜ Inverse p (descent p after) r ⌝ }
 {
     let mut weight = 1;
@@ -31,8 +31,8 @@ fn first_weight(after: usize, inverses: &[u32; 256]) -> u32
 // The basis weights of the points 1..m, into m words. From a point to the next one the differences gain one point before,
 // i + 1 away, and lose the last one after. Behind the last point the factor is P, and the word that it makes is not used.
 pub fn weights(out: &mut [u32], inverses: &[u32; 256])
-    requires { ⌜ (0 < length (now out)) × (length (now out) ≤ 256) × InverseTable (now inverses) ⌝ }
-    ensures { λ _. ⌜ BasisWeights p (consecutive 1 (length (now (out .entry)))) (now (out .exit)) ⌝ }
+    requires { ⌜ (0 < length (now out)) × (length (now out) ≤ 256) × InverseTable p (now inverses) ⌝ }
+    ensures { λ _. ⌜ BasisWeights p (rowPoints (length (now (out .entry)))) (now (out .exit)) ⌝ }
 {
     let last = out.len() - 1;
     let mut weight = first_weight(last, inverses);
@@ -77,7 +77,7 @@ fn times_after(out: &mut [u32], s: u32)
 
 // The basis values of the points 1..m at s, into m words, and the target's value at s.
 pub fn basis_values(out: &mut [u32], s: u32, inverses: &[u32; 256]) -> u32
-    requires { ⌜ (0 < length (now out)) × (length (now out) ≤ 256) × InverseTable (now inverses) ⌝ }
+    requires { ⌜ (0 < length (now out)) × (length (now out) ≤ 256) × InverseTable p (now inverses) ⌝ }
     ensures { λ r. ⌜ BasisAt p (length (now (out .entry))) s (now (out .exit)) r ⌝ }
 {
     weights(out, inverses);
@@ -104,7 +104,7 @@ pub fn dot(y: &[u32], b: &[u32]) -> u32
 // the target divided by X − x, which is 0 at all points but x. That is 2 m operations for such a value, and none for a 0.
 fn add_values(out: &mut [u32], y: &[u32], z: &[u32], weights: &[u32])
     requires { ⌜ (length (now y) ≡ length (now out)) × Words p (now out) × Prepared p (length (now out)) (now z) (now weights) ⌝ }
-    ensures { λ _. ⌜ AddedFirst p (consecutive 1 (length (now (y .entry)))) (λ i. getD (now (y .entry)) i 0) (length (now (y .entry)))
+    ensures { λ _. ⌜ AddedFirst p (rowPoints (length (now (y .entry)))) (λ i. getD (now (y .entry)) i 0) (length (now (y .entry)))
         (now (out .entry)) (now (out .exit)) ⌝ }
 {
     let mut i = 0;
@@ -122,7 +122,7 @@ fn add_values(out: &mut [u32], y: &[u32], z: &[u32], weights: &[u32])
 // basis weights. What out held before does not count.
 pub fn column_through(out: &mut [u32], y: &[u32], z: &[u32], weights: &[u32])
     requires { ⌜ (length (now y) ≡ length (now out)) × Prepared p (length (now out)) (now z) (now weights) ⌝ }
-    ensures { λ _. ⌜ Through p (consecutive 1 (length (now (y .entry)))) (λ i. getD (now (y .entry)) i 0) (now (out .exit)) ⌝ }
+    ensures { λ _. ⌜ Through p (rowPoints (length (now (y .entry)))) (λ i. getD (now (y .entry)) i 0) (now (out .exit)) ⌝ }
 {
     slices::clear(out);
     add_values(out, y, z, weights);

@@ -8,14 +8,14 @@ ghost use lib.ListN.{length};
 ghost use Rattle.field.specs.Field.{InverseTable};
 
 fn weights(out: &mut [u32], inverses: &[u32; 256])
-    requires { ⌜ (0 < length (now out)) × (length (now out) ≤ 256) × InverseTable (now inverses) ⌝ }
+    requires { ⌜ (0 < length (now out)) × (length (now out) ≤ 256) × InverseTable p (now inverses) ⌝ }
 {
     basis::weights(out, inverses);
     samples::line(out);
 }
 
 fn long_weights(inverses: &[u32; 256])
-    requires { ⌜ InverseTable (now inverses) ⌝ }
+    requires { ⌜ InverseTable p (now inverses) ⌝ }
 {
     let mut out = [0u32; 256];
     basis::weights(&mut out, inverses);
@@ -23,7 +23,7 @@ fn long_weights(inverses: &[u32; 256])
 }
 
 fn values(out: &mut [u32], s: u32, inverses: &[u32; 256])
-    requires { ⌜ (0 < length (now out)) × (length (now out) ≤ 256) × InverseTable (now inverses) ⌝ }
+    requires { ⌜ (0 < length (now out)) × (length (now out) ≤ 256) × InverseTable p (now inverses) ⌝ }
 {
     let target = basis::basis_values(out, s, inverses);
     samples::line(out);
@@ -31,7 +31,7 @@ fn values(out: &mut [u32], s: u32, inverses: &[u32; 256])
 }
 
 fn value_through(y: &[u32], room: &mut [u32], s: u32, inverses: &[u32; 256])
-    requires { ⌜ (0 < length (now room)) × (length (now room) ≤ 256) × (length (now y) ≡ length (now room)) × InverseTable (now inverses) ⌝ }
+    requires { ⌜ (0 < length (now room)) × (length (now room) ≤ 256) × (length (now y) ≡ length (now room)) × InverseTable p (now inverses) ⌝ }
 {
     basis::basis_values(room, s, inverses);
     samples::line(&[basis::dot(y, room)]);
@@ -40,7 +40,7 @@ fn value_through(y: &[u32], room: &mut [u32], s: u32, inverses: &[u32; 256])
 // The column through y, with room for the target and the weights.
 fn column(out: &mut [u32], y: &[u32], z: &mut [u32], room: &mut [u32], inverses: &[u32; 256])
     requires { ⌜ (0 < length (now out)) × (length (now out) ≤ 256) × (length (now y) ≡ length (now out)) × (length (now z) ≡ length (now out) + 1) ×
-        (length (now room) ≡ length (now out)) × InverseTable (now inverses) ⌝ }
+        (length (now room) ≡ length (now out)) × InverseTable p (now inverses) ⌝ }
 {
     poly::target(z);
     basis::weights(room, inverses);
@@ -49,7 +49,7 @@ fn column(out: &mut [u32], y: &[u32], z: &mut [u32], room: &mut [u32], inverses:
 }
 
 fn values_of_two(inverses: &[u32; 256])
-    requires { ⌜ InverseTable (now inverses) ⌝ }
+    requires { ⌜ InverseTable p (now inverses) ⌝ }
 {
     let mut room = [0u32; 2];
     weights(&mut room, inverses);
@@ -58,14 +58,14 @@ fn values_of_two(inverses: &[u32; 256])
 }
 
 fn column_value(s: u32, inverses: &[u32; 256])
-    requires { ⌜ InverseTable (now inverses) ⌝ }
+    requires { ⌜ InverseTable p (now inverses) ⌝ }
 {
     let mut room = [0u32; 2];
     value_through(&[1, 0], &mut room, s, inverses);
 }
 
 fn column_of_two(y: &[u32; 2], inverses: &[u32; 256])
-    requires { ⌜ InverseTable (now inverses) ⌝ }
+    requires { ⌜ InverseTable p (now inverses) ⌝ }
 {
     let mut room = [0u32; 2];
     let mut z = [0u32; 3];
@@ -74,7 +74,7 @@ fn column_of_two(y: &[u32; 2], inverses: &[u32; 256])
 }
 
 fn examples_of_five(inverses: &[u32; 256])
-    requires { ⌜ InverseTable (now inverses) ⌝ }
+    requires { ⌜ InverseTable p (now inverses) ⌝ }
 {
     let mut room = [0u32; 5];
     weights(&mut room, inverses);

@@ -4,7 +4,7 @@ ghost use mathlib.Core.Path.{_≡_};
 ghost use Prim.Native.Nat.{_+_, _-_, _%_, _<_, _≤_};
 ghost use lib.ListN.{length, getD};
 ghost use Rattle.algebra.specs.Polynomial.{Words, value, divided, product, reduced};
-ghost use Rattle.algebra.specs.Points.{consecutive, target, Through};
+ghost use Rattle.algebra.specs.Points.{rowPoints, target, Through};
 ghost use Rattle.field.specs.Field.{p};
 ghost use Rattle.poly.specs.AddScaled.{scaled};
 ghost use Rattle.poly.specs.Factor.{timesFactor};
@@ -36,7 +36,7 @@ pub extern "C" fn bench_times_factor(f: &mut [u32], x: u32)
 #[no_mangle]
 pub extern "C" fn bench_target(z: &mut [u32])
     requires { ⌜ (0 < length (now z)) × (length (now z) < 4294967296) ⌝ }
-    ensures { λ _. ⌜ now (z .exit) ≡ target p (consecutive 1 (length (now (z .entry)) - 1)) ⌝ }
+    ensures { λ _. ⌜ now (z .exit) ≡ target p (rowPoints (length (now (z .entry)) - 1)) ⌝ }
 {
     poly::target(z);
 }
@@ -62,7 +62,7 @@ pub extern "C" fn bench_divide(room: &mut [u32], low: &[u32])
 #[no_mangle]
 pub extern "C" fn bench_interpolate(v: &mut [u32])
     requires { ⌜ (length (now v) ≤ 256) × Words p (now v) ⌝ }
-    ensures { λ _. ⌜ Through p (consecutive 1 (length (now (v .entry)))) (λ i. getD (now (v .entry)) i 0) (now (v .exit)) ⌝ }
+    ensures { λ _. ⌜ Through p (rowPoints (length (now (v .entry)))) (λ i. getD (now (v .entry)) i 0) (now (v .exit)) ⌝ }
 {
     let inverses = field::table::inverses();
     poly::interpolation::interpolate(v, &inverses);

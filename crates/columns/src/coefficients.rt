@@ -4,11 +4,12 @@ ghost use Prim.Native.Nat.{_+_, _≤_};
 ghost use lib.ListN.{length, replicate};
 ghost use Rattle.circuit.specs.Circuit.{rows, entries, entryAt};
 ghost use Rattle.circuit.specs.WellFormed.{EntryFormed, SectionFormed, RowWords};
+ghost use Rattle.field.specs.Field.{p};
 ghost use Rattle.columns.specs.Coefficients.{listedColumn, coefColumn};
 
 // Entry e of the section whose count stands at `start`, into the word of its row where its column is j.
 fn write_entry(circuit: &[u32], start: usize, e: usize, j: u32, out: &mut [u32])
-    requires { ⌜ EntryFormed (now circuit) start e × (entryAt start e + 3 ≤ length (now circuit)) ⌝ }
+    requires { ⌜ EntryFormed p (now circuit) start e × (entryAt start e + 3 ≤ length (now circuit)) ⌝ }
     requires { ⌜ now out ≡ listedColumn (now circuit) start j e ⌝ }
     ensures { λ _. ⌜ now (out .exit) ≡ listedColumn (now (circuit .entry)) start j (e + 1) ⌝ }
 {
@@ -22,7 +23,7 @@ fn write_entry(circuit: &[u32], start: usize, e: usize, j: u32, out: &mut [u32])
 
 // All entries of the section, into words that are 0.
 fn write_entries(circuit: &[u32], start: usize, j: u32, out: &mut [u32])
-    requires { ⌜ SectionFormed (now circuit) start × (now out ≡ replicate (rows (now circuit)) 0) ⌝ }
+    requires { ⌜ SectionFormed p (now circuit) start × (now out ≡ replicate (rows (now circuit)) 0) ⌝ }
     ensures { λ _. ⌜ now (out .exit) ≡ listedColumn (now (circuit .entry)) start j (entries (now (circuit .entry)) start) ⌝ }
 {
     let count = circuit[start] as usize;
@@ -35,7 +36,7 @@ fn write_entries(circuit: &[u32], start: usize, j: u32, out: &mut [u32])
 
 // The coefficients of column j of matrix 0, 1 or 2, into as many words as there are rows.
 pub fn column_values(circuit: &[u32], matrix: usize, j: u32, out: &mut [u32])
-    requires { ⌜ RowWords (now circuit) matrix (now out) ⌝ }
+    requires { ⌜ RowWords p (now circuit) matrix (now out) ⌝ }
     ensures { λ _. ⌜ now (out .exit) ≡ coefColumn (now (circuit .entry)) matrix j ⌝ }
 {
     let start = reader::section_start(circuit, matrix);

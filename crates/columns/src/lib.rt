@@ -1,6 +1,7 @@
 // One column and all columns of a matrix (RULES 4). No call asks anything of its input; refused, it changes no
 // word lent to it.
 ghost use Rattle.qap.specs.Calls.{ColumnCall, ColumnsCall};
+ghost use Rattle.qap.specs.Setting.{standard};
 use outcome::Outcome;
 
 mod coefficients;
@@ -8,7 +9,7 @@ mod matrix;
 
 // One column of matrix 0, 1 or 2, into as many words as there are rows.
 pub fn column(circuit: &[u32], matrix: u32, column: u32, out: &mut [u32]) -> Outcome
-    ensures { λ r. ⌜ ColumnCall (now (circuit .entry)) matrix column (now (out .entry)) (now (out .exit)) r ⌝ }
+    ensures { λ r. ⌜ ColumnCall standard (now (circuit .entry)) matrix column (now (out .entry)) (now (out .exit)) r ⌝ }
 {
     let verdict = matrix::column_verdict(circuit, matrix, column, out.len());
     if verdict.number != 0 {
@@ -20,7 +21,7 @@ pub fn column(circuit: &[u32], matrix: u32, column: u32, out: &mut [u32]) -> Out
 
 // All columns of a matrix, one after the other.
 pub fn columns(circuit: &[u32], matrix: u32, out: &mut [u32]) -> Outcome
-    ensures { λ r. ⌜ ColumnsCall (now (circuit .entry)) matrix (now (out .entry)) (now (out .exit)) r ⌝ }
+    ensures { λ r. ⌜ ColumnsCall standard (now (circuit .entry)) matrix (now (out .entry)) (now (out .exit)) r ⌝ }
 {
     let verdict = matrix::columns_verdict(circuit, matrix, out.len());
     if verdict.number != 0 {

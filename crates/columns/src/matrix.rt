@@ -9,6 +9,7 @@ ghost use Rattle.circuit.specs.Circuit.{rows};
 ghost use Rattle.circuit.specs.WellFormed.{RowWords};
 ghost use Rattle.qap.specs.Polynomials.{Column};
 ghost use Rattle.qap.specs.Refusals.{columnVerdict, columnsVerdict};
+ghost use Rattle.qap.specs.Setting.{standard};
 ghost use Rattle.columns.specs.Columns.{ColumnsRoom, ColumnsFrom};
 use outcome::Outcome;
 use outcome::require;
@@ -17,7 +18,7 @@ use refusals::length_verdict;
 
 // The circuit, then 9 for both numbers, then 8.
 pub fn column_verdict(circuit: &[u32], matrix: u32, column: u32, size: usize) -> Outcome
-    ensures { λ r. ⌜ r ≡ columnVerdict (now (circuit .entry)) matrix column size ⌝ }
+    ensures { λ r. ⌜ r ≡ columnVerdict standard (now (circuit .entry)) matrix column size ⌝ }
 {
     let read = reader::circuit_verdict(circuit);
     if read.number != 0 {
@@ -32,7 +33,7 @@ pub fn column_verdict(circuit: &[u32], matrix: u32, column: u32, size: usize) ->
 
 // The circuit, then 9 for the matrix number alone, then 8.
 pub fn columns_verdict(circuit: &[u32], matrix: u32, size: usize) -> Outcome
-    ensures { λ r. ⌜ r ≡ columnsVerdict (now (circuit .entry)) matrix size ⌝ }
+    ensures { λ r. ⌜ r ≡ columnsVerdict standard (now (circuit .entry)) matrix size ⌝ }
 {
     let read = reader::circuit_verdict(circuit);
     if read.number != 0 {
@@ -55,8 +56,8 @@ fn prepare(z: &mut [u32], weights: &mut [u32])
 
 // The one-column writer: column j of matrix 0, 1 or 2, into the words lent for it.
 fn write_column(circuit: &[u32], matrix: usize, j: u32, z: &[u32], weights: &[u32], out: &mut [u32])
-    requires { ⌜ RowWords (now circuit) matrix (now out) × Prepared p (rows (now circuit)) (now z) (now weights) ⌝ }
-    ensures { λ _. ⌜ Column (now (circuit .entry)) matrix j (now (out .exit)) ⌝ }
+    requires { ⌜ RowWords p (now circuit) matrix (now out) × Prepared p (rows (now circuit)) (now z) (now weights) ⌝ }
+    ensures { λ _. ⌜ Column standard (now (circuit .entry)) matrix j (now (out .exit)) ⌝ }
 {
     let m = out.len();
     let mut values = slices::room();

@@ -7,10 +7,10 @@ use native.Mathlib.Omega.{arith}
 use lib.ListN.{length, getD, take, drop, set, length-set, length-append, drop-of-length-le}
 use lib.Seq.{drop-cons, getD-set-same, getD-take, take-set-le, length-take-le}
 use Rattle.algebra.specs.Polynomial.{Words}
-use Rattle.algebra.specs.Points.{Through, consecutive, target}
+use Rattle.algebra.specs.Points.{Through, rowPoints, target}
 use Rattle.algebra.proofs.Congruence.{≈-trans, ≈-eq}
 use Rattle.algebra.proofs.Pairing.{pairing, by-pairings, pairing-sum, pairing-multiple}
-use Rattle.algebra.proofs.Consecutive.{length-consecutive}
+use Rattle.algebra.proofs.Consecutive.{length-rowPoints}
 use Rattle.algebra.proofs.Target.{length-target}
 use Rattle.field.specs.Field.{p, InverseTable}
 use Rattle.field.proofs.PrimeField.{p-prime, p-positive}
@@ -32,8 +32,8 @@ module _ (m : ℕ) (out : List ℕ) (size : length out ≡ m + 1) where
       rw (getD-set-same out m 0 0 (omega arith), drop-of-length-le (set out m 0) {i = suc m} (omega (arith, length-set out m 0)))
 
   -- the list through the values
-  values-through : (few : m ≤ 256) → Words p (take m out) → (t : List ℕ) → InverseTable t →
-      Through p (consecutive 1 m) (λ i. getD out i 0) (interpolated p t 1 (take m out))
+  values-through : (few : m ≤ 256) → Words p (take m out) → (t : List ℕ) → InverseTable p t →
+      Through p (rowPoints m) (λ i. getD out i 0) (interpolated p t 1 (take m out))
   values-through few words t table =
       let n : length (take m out) ≡ m = length-take-le m out (omega arith) in
       let found = interpolated-through p-prime t (λ i l. table .inverse i (omega (arith, table .entries))) 1 (take m out)
@@ -42,19 +42,19 @@ module _ (m : ℕ) (out : List ℕ) (size : length out ≡ m + 1) where
         size = rw n at (found .size);
         words = found .words;
         takes = λ i l.
-            let below : i < m = omega (arith, length-consecutive 1 m) in
-            rw (getD-take m out i 0 below) at (rw n at (found .takes i (omega (arith, length-consecutive 1 (length (take m out))))));
+            let below : i < m = omega (arith, length-rowPoints m) in
+            rw (getD-take m out i 0 below) at (rw n at (found .takes i (omega (arith, length-rowPoints (length (take m out))))));
       }
 
-  pub blinded-law : (few : m ≤ 256) → Words p (take m out) → (t : List ℕ) → InverseTable t → (d : ℕ) (z new : List ℕ) → z ≡ target p (consecutive 1 m) →
-      new ≡ scaled p d z (interpolated p t 1 (take m out) ++ 0 ∷ []) → BlindedThrough (consecutive 1 m) (λ i. getD out i 0) d new
+  pub blinded-law : (few : m ≤ 256) → Words p (take m out) → (t : List ℕ) → InverseTable p t → (d : ℕ) (z new : List ℕ) → z ≡ target p (rowPoints m) →
+      new ≡ scaled p d z (interpolated p t 1 (take m out) ++ 0 ∷ []) → BlindedThrough (rowPoints m) (λ i. getD out i 0) d new
   unfolding pairing
   blinded-law few words t table d z new target-z e =
       let f = interpolated p t 1 (take m out) in
       let through = values-through few words t table in
-      let points = length-consecutive 1 m in
+      let points = length-rowPoints m in
       let room : length (f ++ 0 ∷ []) ≡ suc m = rw length-append (omega (arith, through .size)) in
-      let fits : length z ≤ length (f ++ 0 ∷ []) = omega (arith, ap length target-z, length-target p (consecutive 1 m)) in
+      let fits : length z ≤ length (f ++ 0 ∷ []) = omega (arith, ap length target-z, length-target p (rowPoints m)) in
       record {
         plain = f;
         through = through;

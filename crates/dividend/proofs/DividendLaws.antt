@@ -8,14 +8,14 @@ use native.Mathlib.Omega.{arith}
 use lib.ListN.{length, getD, take, length-take, List·getD-eq-default}
 use lib.Seq.{getD-take, length-take-le}
 use Rattle.algebra.specs.Polynomial.{Words, sum, product, reduced, _≋⟨_⟩_}
-use Rattle.algebra.specs.Points.{Vanishes, consecutive}
+use Rattle.algebra.specs.Points.{Vanishes, rowPoints}
 use Rattle.algebra.specs.Blinding.{Holds, Divides}
 use Rattle.algebra.proofs.Congruence.{≈-refl, ≈-trans, ≈-plus, ≈-negative, by}
 use Rattle.algebra.proofs.Polynomial.{length-reduced, value-product}
 use Rattle.algebra.proofs.Pairing.{pairing, pairings, by-pairings, pairing-sum}
 use Rattle.algebra.proofs.Same.{≋-sym, ≋-trans, ≋-value, ≋-reduced, reduced-words, words-equal}
 use Rattle.algebra.proofs.Difference.{difference, length-difference, pairing-difference, difference-value, difference-sum}
-use Rattle.algebra.proofs.Consecutive.{length-consecutive, distinct-consecutive}
+use Rattle.algebra.proofs.Consecutive.{length-rowPoints, distinct-rowPoints}
 use Rattle.field.specs.Field.{p}
 use Rattle.field.proofs.PrimeField.{p-prime, p-positive}
 use Rattle.poly.specs.Product.{padded}
@@ -68,18 +68,18 @@ module _ (m : ℕ) (few : m ≤ 256) (a b c : List ℕ) (size-a : length a ≡ s
   }
 
   -- where A'B' − C' is 0 at all points its quotient divides
-  pub dividend-quotient : Holds p (consecutive 1 m) a b c → Divides p (consecutive 1 m) a b c (quotientOf m (dividendOf a b c))
+  pub dividend-quotient : Holds p (rowPoints m) a b c → Divides p (rowPoints m) a b c (quotientOf m (dividendOf a b c))
   unfolding quotientOf
   dividend-quotient holds =
       let f = take (m + m + 1) (dividendOf a b c) in
-      let xs = consecutive 1 m in
+      let xs = rowPoints m in
       let size : length f ≡ m + m + 1 = length-take-le (m + m + 1) (dividendOf a b c) (omega (arith, dividend-length)) in
       let zero : Vanishes p f xs = record {
         zero-at = λ i l.
             ≈-trans (≋-value front-same (getD xs i 0)) (difference-value p-positive (product a b) c (getD xs i 0) (rw value-product (holds .at-each i l)));
       } in
-      let q = quotient-exact p-prime xs f (omega (arith, length-consecutive 1 m)) (words-take (m + m + 1) (dividendOf a b c) dividend-words)
-      (distinct-consecutive 1 m (omega arith)) zero in
+      let q = quotient-exact p-prime xs f (omega (arith, length-rowPoints m)) (words-take (m + m + 1) (dividendOf a b c) dividend-words)
+      (distinct-rowPoints m (omega arith)) zero in
       record { equal = difference-sum p-positive (product a b) c (≋-trans (≋-sym front-same) (q .exact)) }
 
   pub dividend-quotient-size : length (quotientOf m (dividendOf a b c)) ≡ suc m
@@ -87,15 +87,15 @@ module _ (m : ℕ) (few : m ≤ 256) (a b c : List ℕ) (size-a : length a ≡ s
   dividend-quotient-size =
       let f = take (m + m + 1) (dividendOf a b c) in
       let size : length f ≡ m + m + 1 = length-take-le (m + m + 1) (dividendOf a b c) (omega (arith, dividend-length)) in
-      let points = length-consecutive 1 m in
-      omega (arith, length-quotient p-prime (consecutive 1 m) f (omega arith))
+      let points = length-rowPoints m in
+      omega (arith, length-quotient p-prime (rowPoints m) f (omega arith))
 
   pub dividend-quotient-words : Words p (quotientOf m (dividendOf a b c))
   unfolding quotientOf
   dividend-quotient-words =
       let f = take (m + m + 1) (dividendOf a b c) in
       let size : length f ≡ m + m + 1 = length-take-le (m + m + 1) (dividendOf a b c) (omega (arith, dividend-length)) in
-      words-quotient p-prime (consecutive 1 m) f (omega (arith, length-consecutive 1 m)) (words-take (m + m + 1) (dividendOf a b c) dividend-words)
+      words-quotient p-prime (rowPoints m) f (omega (arith, length-rowPoints m)) (words-take (m + m + 1) (dividendOf a b c) dividend-words)
 
   module _ (z h : List ℕ) (size-z : length z ≡ suc m) (size-h : length h ≡ suc m) where
     -- the words of Z times a candidate are the same exactly where A'B' − C' = Z h

@@ -12,7 +12,7 @@ use Rattle.algebra.specs.Blinding.{Holds, Divides}
 use Rattle.algebra.proofs.Congruence.{≈-sym, ≈-trans, ≈-plus, ≈-times, ≈-product, by}
 use Rattle.algebra.proofs.Polynomial.{value-sum, value-multiple}
 use Rattle.algebra.proofs.Same.{≋-sym, ≋-value}
-use Rattle.algebra.proofs.Consecutive.{length-consecutive}
+use Rattle.algebra.proofs.Consecutive.{length-rowPoints}
 use Rattle.algebra.proofs.Target.{length-target, target-zero}
 use Rattle.algebra.proofs.Blinding.{divides-alike}
 use Rattle.field.specs.Field.{p}
@@ -25,6 +25,7 @@ use Rattle.qap.specs.Polynomials.{Whole, targetOf, IsQuotient}
 use Rattle.qap.specs.Answers.{CandidateDivides}
 use Rattle.qap.proofs.Parts.{through-part, part-unique}
 use Rattle.qap.proofs.Quotients.{candidate-quotient}
+use Rattle.qap.specs.Setting.{standard}
 use Rattle.dividend.specs.Dividend.{dividendOf, quotientOf}
 use Rattle.dividend.specs.Blinded.{BlindedThrough}
 use Rattle.dividend.proofs.DividendLaws.{dividend-quotient, dividend-quotient-size, dividend-quotient-words, words-divide, divide-words}
@@ -57,7 +58,7 @@ module _ (c a : List ℕ) (few : rows c ≤ 256) (distinct : Distinct p (points 
     (bg : BlindedThrough (points c) (λ i. wholeSum c a 1 (suc i)) (d .second) g)
     (bk : BlindedThrough (points c) (λ i. wholeSum c a 2 (suc i)) (d .third) k) where
   points-count : length (points c) ≡ rows c
-  points-count = length-consecutive 1 (rows c)
+  points-count = length-rowPoints (rows c)
 
   size-f : length f ≡ suc (rows c)
   size-f = omega (arith, bf .size, points-count)
@@ -68,17 +69,17 @@ module _ (c a : List ℕ) (few : rows c ≤ 256) (distinct : Distinct p (points 
   size-k : length k ≡ suc (rows c)
   size-k = omega (arith, bk .size, points-count)
 
-  whole-A : Whole c a 0 (bf .plain)
+  whole-A : Whole standard c a 0 (bf .plain)
   whole-A = through-part c a 0 0 (columns c) distinct (bf .through)
 
-  whole-B : Whole c a 1 (bg .plain)
+  whole-B : Whole standard c a 1 (bg .plain)
   whole-B = through-part c a 1 0 (columns c) distinct (bg .through)
 
-  whole-C : Whole c a 2 (bk .plain)
+  whole-C : Whole standard c a 2 (bk .plain)
   whole-C = through-part c a 2 0 (columns c) distinct (bk .through)
 
   -- what divides A'B' − C' is a candidate that the division check accepts
-  candidate : {h : List ℕ} → Divides p (points c) f g k h → CandidateDivides c a d h
+  candidate : {h : List ℕ} → Divides p (points c) f g k h → CandidateDivides standard c a d h
   candidate divides = record {
     A = bf .plain;
     B = bg .plain;
@@ -89,7 +90,7 @@ module _ (c a : List ℕ) (few : rows c ≤ 256) (distinct : Distinct p (points 
     divides = divides-alike (bf .same) (bg .same) (bk .same) divides;
   }
 
-  pub quotient-law : RowsHold c a → IsQuotient c a d (quotientOf (rows c) (dividendOf f g k))
+  pub quotient-law : RowsHold p c a → IsQuotient standard c a d (quotientOf (rows c) (dividendOf f g k))
   quotient-law hold =
       let holds : Holds p (points c) f g k = record {
         at-each = λ i l.
@@ -101,18 +102,18 @@ module _ (c a : List ℕ) (few : rows c ≤ 256) (distinct : Distinct p (points 
       (candidate (dividend-quotient (rows c) few f g k size-f size-g size-k holds))
 
   module _ (h : List ℕ) (size-h : length h ≡ suc (rows c)) where
-    size-z : length (targetOf c) ≡ suc (rows c)
+    size-z : length (targetOf standard c) ≡ suc (rows c)
     size-z = omega (arith, length-target p (points c), points-count)
 
     -- a candidate divides exactly where the words of Z times it are the dividend's
-    pub candidate-words : CandidateDivides c a d h → dividendOf f g k ≡ padded 513 (reduced p (product (targetOf c) h))
+    pub candidate-words : CandidateDivides standard c a d h → dividendOf f g k ≡ padded 513 (reduced p (product (targetOf standard c) h))
     candidate-words q =
         let same-A = part-unique c a 0 0 (columns c) distinct (q .whole-A) whole-A in
         let same-B = part-unique c a 1 0 (columns c) distinct (q .whole-B) whole-B in
         let same-C = part-unique c a 2 0 (columns c) distinct (q .whole-C) whole-C in
         let divides = rw (same-A, same-B, same-C) at (q .divides) in
-        divide-words (rows c) few f g k size-f size-g size-k (targetOf c) h size-z size-h
+        divide-words (rows c) few f g k size-f size-g size-k (targetOf standard c) h size-z size-h
         (divides-alike (≋-sym (bf .same)) (≋-sym (bg .same)) (≋-sym (bk .same)) divides .equal)
 
-    pub words-candidate : dividendOf f g k ≡ padded 513 (reduced p (product (targetOf c) h)) → CandidateDivides c a d h
-    words-candidate e = candidate (record { equal = words-divide (rows c) few f g k size-f size-g size-k (targetOf c) h size-z size-h e })
+    pub words-candidate : dividendOf f g k ≡ padded 513 (reduced p (product (targetOf standard c) h)) → CandidateDivides standard c a d h
+    words-candidate e = candidate (record { equal = words-divide (rows c) few f g k size-f size-g size-k (targetOf standard c) h size-z size-h e })

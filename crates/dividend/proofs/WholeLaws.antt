@@ -6,9 +6,9 @@ use native.Mathlib.Omega.{arith}
 use lib.ListN.{length, getD, take, drop, length-append, length-drop, List·getD-append}
 use lib.Seq.{take-at}
 use Rattle.algebra.specs.Polynomial.{Words}
-use Rattle.algebra.specs.Points.{consecutive}
+use Rattle.algebra.specs.Points.{rowPoints}
 use Rattle.algebra.proofs.Congruence.{≈-reduced}
-use Rattle.algebra.proofs.Consecutive.{length-consecutive}
+use Rattle.algebra.proofs.Consecutive.{length-rowPoints}
 use Rattle.field.specs.Field.{p}
 use Rattle.circuit.specs.Circuit.{rows, columns}
 use Rattle.rows.specs.Rows.{rowSums, wholeSum}
@@ -18,9 +18,9 @@ use Rattle.dividend.specs.Dividend.{BlindedWhole}
 use Rattle.dividend.proofs.QuotientLaws.{blinded-alike}
 
 module _ (c a : List ℕ) (matrix m : ℕ) (out sums : List ℕ) (count : m ≡ rows c) (room : length out ≡ m + 1)
-    (made : sums ≡ rowSums c a matrix 0 (columns c)) where
+    (made : sums ≡ rowSums p c a matrix 0 (columns c)) where
   sums-count : length sums ≡ m
-  sums-count = ap length made ∙ length-sums c a matrix 0 (columns c) ∙ sym count
+  sums-count = ap length made ∙ length-sums p c a matrix 0 (columns c) ∙ sym count
 
   pub whole-size : length (sums ++ drop m out) ≡ m + 1
   whole-size = rw (length-append, length-drop) (omega (arith, sums-count))
@@ -28,9 +28,9 @@ module _ (c a : List ℕ) (matrix m : ℕ) (out sums : List ℕ) (count : m ≡ 
   pub whole-words : Words p (take m (sums ++ drop m out))
   whole-words = rw (take-at sums (drop m out) m sums-count, made) (sums-words c a matrix 0 (columns c))
 
-  pub whole-blinded : {d : ℕ} {g : List ℕ} → BlindedThrough (consecutive 1 m) (λ i. getD (sums ++ drop m out) i 0) d g → BlindedWhole c a matrix d g
+  pub whole-blinded : {d : ℕ} {g : List ℕ} → BlindedThrough (rowPoints m) (λ i. getD (sums ++ drop m out) i 0) d g → BlindedWhole c a matrix d g
   whole-blinded b = blinded-alike
       (λ i l.
-      let below : i < rows c = omega (arith, length-consecutive 1 (rows c)) in
-      rw (List·getD-append sums (drop (rows c) out) 0 i (omega (arith, sums-count)), made, sum-at c a matrix 0 (columns c) i below)
+      let below : i < rows c = omega (arith, length-rowPoints (rows c)) in
+      rw (List·getD-append sums (drop (rows c) out) 0 i (omega (arith, sums-count)), made, sum-at p c a matrix 0 (columns c) i below)
       (≈-reduced p (wholeSum c a matrix (suc i)))) (rw count at b)

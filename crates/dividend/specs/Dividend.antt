@@ -5,7 +5,7 @@ use mathlib.Core.List.{List}
 use Prim.Native.Nat.{ℕ, suc, _+_, _-_, _≤_}
 use lib.ListN.{length, take}
 use Rattle.algebra.specs.Polynomial.{product, reduced}
-use Rattle.algebra.specs.Points.{consecutive, target}
+use Rattle.algebra.specs.Points.{rowPoints, target}
 use Rattle.field.specs.Field.{p}
 use Rattle.poly.specs.AddScaled.{scaled}
 use Rattle.poly.specs.Product.{padded}
@@ -23,7 +23,7 @@ dividendOf a b c = scaled p (p - 1) c (padded 513 (reduced p (product a b)))
 
 -- a dividend's first 2 m + 1 words divided by the target of 1..m
 unfoldable pub quotientOf : ℕ → List ℕ → List ℕ
-quotientOf m dividend = quotient p (consecutive 1 m) (take (m + m + 1) dividend)
+quotientOf m dividend = quotient p (rowPoints m) (take (m + m + 1) dividend)
 
 -- the words of A', B' or C'
 abbrev pub BlindedWhole : List ℕ → List ℕ → ℕ → ℕ → List ℕ → Type 0
@@ -41,8 +41,8 @@ pub record IsDividend (c a : List ℕ) (d : Blinders) (words : List ℕ) : Type 
 
 -- what the functions that make the dividend are given: z is the target, with one word more than there are rows
 pub record DividendGiven (c a : List ℕ) (m : ℕ) (z : List ℕ) : Type 0 where
-  pub circuit : Formed c
-  pub assignment : AssignmentFormed c a
+  pub circuit : Formed p c
+  pub assignment : AssignmentFormed p c a
   pub count : m ≡ rows c
   pub is-target : z ≡ target p (points c)
 
@@ -55,5 +55,5 @@ pub record Short (a b c : List ℕ) : Type 0 where
 -- the target z of 1..m, and m + 1 words to write
 pub record TargetAndRoom (m : ℕ) (z out : List ℕ) : Type 0 where
   pub few : m ≤ 256
-  pub is-target : z ≡ target p (consecutive 1 m)
+  pub is-target : z ≡ target p (rowPoints m)
   pub room : length out ≡ m + 1

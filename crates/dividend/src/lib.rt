@@ -4,7 +4,7 @@ ghost use mathlib.Core.Path.{_≡_};
 ghost use Prim.Native.Nat.{_+_, _<_};
 ghost use lib.ListN.{length, drop, take, getD};
 ghost use Rattle.algebra.specs.Polynomial.{Words};
-ghost use Rattle.algebra.specs.Points.{consecutive};
+ghost use Rattle.algebra.specs.Points.{rowPoints};
 ghost use Rattle.field.specs.Field.{p};
 ghost use Rattle.poly.specs.Division.{division};
 ghost use Rattle.qap.specs.declared.Blinders.{Blinders};
@@ -16,7 +16,7 @@ use qap::Blinders;
 // The first m words hold the values; the last word makes room for the multiple of the target z.
 fn blind(out: &mut [u32], m: usize, d: u32, z: &[u32])
     requires { ⌜ TargetAndRoom m (now z) (now out) × Words p (take m (now out)) ⌝ }
-    ensures { λ _. ⌜ BlindedThrough (consecutive 1 m) (λ i. getD (now (out .entry)) i 0) d (now (out .exit)) ⌝ }
+    ensures { λ _. ⌜ BlindedThrough (rowPoints m) (λ i. getD (now (out .entry)) i 0) d (now (out .exit)) ⌝ }
 {
     let inverses = field::table::inverses();
     out[m] = 0;

@@ -21,22 +21,23 @@ use Rattle.dividend.specs.Dividend.{IsDividend}
 use Rattle.dividend.proofs.QuotientLaws.{candidate-words, words-candidate}
 use Rattle.refusals.specs.Decides.{Decides}
 use Rattle.refusals.proofs.Deciding.{decides-other}
+use Rattle.qap.specs.Setting.{standard}
 
-module _ (c a : List ℕ) (d : Blinders) (h : List ℕ) (accepted : Accepted (checkDivisionVerdict c a d h)) where
-  pub ready : DivisionReady c a d h
-  ready = division-ready c a d h accepted
+module _ (c a : List ℕ) (d : Blinders) (h : List ℕ) (accepted : Accepted (checkDivisionVerdict standard c a d h)) where
+  pub ready : DivisionReady standard c a d h
+  ready = division-ready standard c a d h accepted
 
   pub few : rows c ≤ 256
-  few = few-rows c (ready .given .circuit)
+  few = few-rows c (ready standard .given .circuit)
 
   pub candidate-size : length h ≡ suc (rows c)
-  candidate-size = omega (arith, ready .exact)
+  candidate-size = omega (arith, ready standard .exact)
 
   points-distinct : Distinct p (points c)
-  points-distinct = distinct-points c (ready .given .circuit)
+  points-distinct = distinct-points c (ready standard .given .circuit)
 
-  pub division-decided : {z left right : List ℕ} {x : Bool} → z ≡ targetOf c → IsDividend c a d left → right ≡ padded 513 (reduced p (product z h)) →
-      Decides (left ≡ right) x → Decides (CandidateDivides c a d h) x
+  pub division-decided : {z left right : List ℕ} {x : Bool} → z ≡ targetOf standard c → IsDividend c a d left → right ≡ padded 513 (reduced p (product z h)) →
+      Decides (left ≡ right) x → Decides (CandidateDivides standard c a d h) x
   division-decided made dividend filled = decides-other
       (λ e. words-candidate c a few points-distinct d (dividend .is-A') (dividend .is-B') (dividend .is-C') h candidate-size
       (sym (dividend .is-difference) ∙ e ∙ filled ∙ rw made))

@@ -7,6 +7,7 @@ ghost use Rattle.qap.specs.Answers.{CandidateDivides};
 ghost use Rattle.qap.specs.Refusals.{checkDivisionVerdict};
 ghost use Rattle.qap.specs.Calls.{CheckDivisionCall};
 ghost use Rattle.refusals.specs.Decides.{Decides};
+ghost use Rattle.qap.specs.Setting.{standard};
 use outcome::Outcome;
 use qap::Blinders;
 
@@ -16,7 +17,7 @@ fn check_division_verdict(
     d: Blinders,
     candidate: &[u32],
 ) -> Outcome
-    ensures { λ o. ⌜ o ≡ checkDivisionVerdict (now (circuit .entry)) (now (values .entry)) d (now (candidate .entry)) ⌝ }
+    ensures { λ o. ⌜ o ≡ checkDivisionVerdict standard (now (circuit .entry)) (now (values .entry)) d (now (candidate .entry)) ⌝ }
 {
     let ready = refusals::ready_verdict(circuit, values, d);
     if ready.number != 0 {
@@ -47,8 +48,8 @@ fn same(a: &[u32], b: &[u32]) -> bool
 
 // The division check's equality: the words of A'B' − C' are those of Z times the candidate.
 fn candidate_divides(circuit: &[u32], values: &[u32], d: Blinders, candidate: &[u32]) -> bool
-    requires { ⌜ Accepted (checkDivisionVerdict (now circuit) (now values) d (now candidate)) ⌝ }
-    ensures { λ x. ⌜ Decides (CandidateDivides (now (circuit .entry)) (now (values .entry)) d (now (candidate .entry))) x ⌝ }
+    requires { ⌜ Accepted (checkDivisionVerdict standard (now circuit) (now values) d (now candidate)) ⌝ }
+    ensures { λ x. ⌜ Decides (CandidateDivides standard (now (circuit .entry)) (now (values .entry)) d (now (candidate .entry))) x ⌝ }
 {
     let m = circuit::counts::rows_of(circuit);
     let end = m + 1;
@@ -61,7 +62,7 @@ fn candidate_divides(circuit: &[u32], values: &[u32], d: Blinders, candidate: &[
 
 // A candidate for the quotient of the blinded polynomials.
 pub fn check_division(circuit: &[u32], values: &[u32], d: Blinders, candidate: &[u32]) -> Outcome
-    ensures { λ o. ⌜ CheckDivisionCall (now (circuit .entry)) (now (values .entry)) d (now (candidate .entry)) o ⌝ }
+    ensures { λ o. ⌜ CheckDivisionCall standard (now (circuit .entry)) (now (values .entry)) d (now (candidate .entry)) o ⌝ }
 {
     let verdict = check_division_verdict(circuit, values, d, candidate);
     if verdict.number != 0 {

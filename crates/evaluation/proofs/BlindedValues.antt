@@ -12,6 +12,7 @@ use Rattle.circuit.specs.Circuit.{rows, columns}
 use Rattle.circuit.specs.WellFormed.{Formed}
 use Rattle.rows.specs.Rows.{rowSums}
 use Rattle.qap.specs.Polynomials.{targetOf}
+use Rattle.qap.specs.Setting.{standard}
 use Rattle.evaluation.specs.Values.{PartAt, BlindedAt}
 use Rattle.evaluation.proofs.PartValues.{part-at}
 
@@ -21,10 +22,10 @@ pub blinded-at : {c a basis : List ℕ} (matrix : ℕ) {from first last : ℕ} (
 blinded-at {c} {a} matrix d s z v r begins ends at part made f is-part =
     let one = part f (rw (begins, ends) is-part) in
     made ∙ rw (one, at .target-at)
-    (≈-plus (≈-reduced p (value f s)) (≈-times d (≈-reduced p (value (targetOf c) s))) .same)
+    (≈-plus (≈-reduced p (value f s)) (≈-times d (≈-reduced p (value (targetOf standard c) s))) .same)
 
 -- the same over all columns, from row sums that are at hand
-pub whole-at : {c a sums basis : List ℕ} (matrix d s z v r : ℕ) → Formed c → BasisAt p (rows c) s basis z → sums ≡ rowSums c a matrix 0 (columns c) →
+pub whole-at : {c a sums basis : List ℕ} (matrix d s z v r : ℕ) → Formed p c → BasisAt p (rows c) s basis z → sums ≡ rowSums p c a matrix 0 (columns c) →
     v ≡ total (λ i. getD sums i 0 * getD basis i 0) (length sums) % p → r ≡ (v + d * z) % p → BlindedAt c a matrix 0 d s r
 whole-at {c} {a} {sums} {basis} matrix d s z v r formed at made dot blinded =
     blinded-at matrix d s z v r refl refl at (part-at c a matrix 0 (columns c) formed sums basis made dot s (at .values)) blinded

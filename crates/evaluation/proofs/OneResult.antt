@@ -7,7 +7,7 @@ use Rattle.algebra.specs.Congruence.{_≈⟨_⟩_}
 use Rattle.algebra.specs.Points.{Distinct}
 use Rattle.algebra.specs.Basis.{BasisValues}
 use Rattle.algebra.proofs.Congruence.{≈-sym, by}
-use Rattle.algebra.proofs.Consecutive.{distinct-consecutive}
+use Rattle.algebra.proofs.Consecutive.{distinct-rowPoints}
 use Rattle.algebra.proofs.Inverse.{solve-unique}
 use Rattle.field.specs.Field.{p}
 use Rattle.field.proofs.PrimeField.{p-prime}
@@ -17,12 +17,13 @@ use Rattle.circuit.specs.WellFormed.{Formed}
 use Rattle.rows.specs.Sums.{WholeSums}
 use Rattle.qap.specs.declared.Blinders.{Blinders}
 use Rattle.qap.proofs.Parts.{part-exists}
+use Rattle.circuit.proofs.Rows.{row-range}
 use Rattle.evaluation.specs.declared.ThreeValues.{ThreeValues}
 use Rattle.evaluation.specs.Values.{BlindedAt, ThreeAt, PartValue, PrivateParts, WholeValues, QuotientValue}
 
-module _ (c a : List ℕ) (formed : Formed c) (s : ℕ) where
+module _ (c a : List ℕ) (formed : Formed p c) (s : ℕ) where
   distinct : Distinct p (points c)
-  distinct = distinct-consecutive 1 (rows c) (omega (arith, formed .row-count .at-most))
+  distinct = distinct-rowPoints (rows c) (omega (arith, row-range (formed) .at-most))
 
   pub part-value-determined : (matrix from to : ℕ) {basis : List ℕ} {r r' : ℕ} → BasisValues p (points c) s basis →
       PartValue c a matrix from to basis r → PartValue c a matrix from to basis r' → r ≡ r'
@@ -46,7 +47,7 @@ module _ (c a : List ℕ) (formed : Formed c) (s : ℕ) where
     pub private-parts-determined : PrivateParts c a d z basis r → PrivateParts c a d z basis r' → r ≡ r'
     private-parts-determined v v' = three-once _ d (v .at s at) (v' .at s at)
 
-    pub whole-values-determined : {sums-a sums-b sums-c : List ℕ} → WholeSums c a sums-a sums-b sums-c →
+    pub whole-values-determined : {sums-a sums-b sums-c : List ℕ} → WholeSums p c a sums-a sums-b sums-c →
         WholeValues sums-a sums-b sums-c d z basis r → WholeValues sums-a sums-b sums-c d z basis r' → r ≡ r'
     whole-values-determined sums v v' = three-once 0 d (v .at c a s formed sums at) (v' .at c a s formed sums at)
 

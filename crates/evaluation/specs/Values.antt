@@ -15,15 +15,16 @@ use Rattle.circuit.specs.WellFormed.{Formed}
 use Rattle.rows.specs.Sums.{Span, WholeSums}
 use Rattle.qap.specs.declared.Blinders.{Blinders}
 use Rattle.qap.specs.Polynomials.{Part, targetOf}
+use Rattle.qap.specs.Setting.{standard}
 use Rattle.evaluation.specs.declared.ThreeValues.{ThreeValues}
 
 -- the value at s of every list that is the part
 abbrev pub PartAt : List ℕ → List ℕ → ℕ → ℕ → ℕ → ℕ → ℕ → Type 0
-PartAt c a matrix from to s r = (f : List ℕ) → Part c a matrix from to f → r ≡ value f s % p
+PartAt c a matrix from to s r = (f : List ℕ) → Part standard c a matrix from to f → r ≡ value f s % p
 
 -- the same over the columns after `from`, with d times the target's value
 abbrev pub BlindedAt : List ℕ → List ℕ → ℕ → ℕ → ℕ → ℕ → ℕ → Type 0
-BlindedAt c a matrix from d s r = (f : List ℕ) → Part c a matrix from (columns c) f → r ≡ (value f s + d * value (targetOf c) s) % p
+BlindedAt c a matrix from d s r = (f : List ℕ) → Part standard c a matrix from (columns c) f → r ≡ (value f s + d * value (targetOf standard c) s) % p
 
 -- of A, B and C
 pub record ThreeAt (c a : List ℕ) (from : ℕ) (d : Blinders) (s : ℕ) (r : ThreeValues) : Type 0 where
@@ -33,7 +34,7 @@ pub record ThreeAt (c a : List ℕ) (from : ℕ) (d : Blinders) (s : ℕ) (r : T
 
 -- what `part_value` is given: the columns and their values are there, and a basis value for each row
 pub record PartGiven (c a : List ℕ) (matrix from to : ℕ) (basis : List ℕ) : Type 0 where
-  pub circuit : Formed c
+  pub circuit : Formed p c
   pub of-three : matrix < 3
   pub span : Span c a from to
   pub size : length basis ≡ rows c
@@ -47,7 +48,7 @@ pub record PrivateParts (c a : List ℕ) (d : Blinders) (z : ℕ) (basis : List 
 
 -- over all columns, for every circuit and assignment whose row sums the three lists are
 pub record WholeValues (sums-a sums-b sums-c : List ℕ) (d : Blinders) (z : ℕ) (basis : List ℕ) (r : ThreeValues) : Type 0 where
-  pub at : (c a : List ℕ) (s : ℕ) → Formed c → WholeSums c a sums-a sums-b sums-c → BasisAt p (rows c) s basis z → ThreeAt c a 0 d s r
+  pub at : (c a : List ℕ) (s : ℕ) → Formed p c → WholeSums p c a sums-a sums-b sums-c → BasisAt p (rows c) s basis z → ThreeAt c a 0 d s r
 
 -- the word that is (u v − t) / z
 pub record QuotientValue (three : ThreeValues) (z r : ℕ) : Type 0 where

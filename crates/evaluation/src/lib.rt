@@ -44,7 +44,7 @@ pub fn private_parts(
     z: u32,
     basis: &[u32],
 ) -> ThreeValues
-    requires { ⌜ Formed (now circuit) × AssignmentFormed (now circuit) (now values) × (length (now basis) ≡ rows (now circuit)) ⌝ }
+    requires { ⌜ Formed p (now circuit) × AssignmentFormed p (now circuit) (now values) × (length (now basis) ≡ rows (now circuit)) ⌝ }
     ensures { λ r. ⌜ PrivateParts (now (circuit .entry)) (now (values .entry)) d z (now (basis .entry)) r ⌝ }
 {
     let q = circuit::counts::publics_of(circuit);

@@ -11,11 +11,11 @@ abbrev pub p : ℕ
 p = 2013265921
 
 -- r answers for the number a: its inverse, or 0 where a is 0 modulo p and has none
-pub record InverseOrZero (a r : ℕ) : Type 0 where
+pub record InverseOrZero (p a r : ℕ) : Type 0 where
   pub of-zero : a ≈⟨ p ⟩ 0 → r ≡ 0
   pub of-nonzero : (a ≈⟨ p ⟩ 0 → ⊥) → Inverse p a r
 
 -- the entries are the inverses of 1 to 256, in that order
-pub record InverseTable (t : List ℕ) : Type 0 where
+pub record InverseTable (p : ℕ) (t : List ℕ) : Type 0 where
   pub entries : length t ≡ 256
   pub inverse : (i : ℕ) → i < 256 → Inverse p (suc i) (getD t i 0)

@@ -39,7 +39,7 @@ pub fn times(a: u32, b: u32) -> u32
 
 // The inverse of a, or 0 where a is a multiple of p.
 pub fn inverse(a: u32) -> u32
-    ensures { λ r. ⌜ InverseOrZero a r ⌝ }
+    ensures { λ r. ⌜ InverseOrZero p a r ⌝ }
 {
     let word = a % P;
     if word == 0 {

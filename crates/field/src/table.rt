@@ -1,5 +1,5 @@
 // The constant table of the inverses of 1 to 256. RULES 1.
-ghost use Rattle.field.specs.Field.{InverseTable};
+ghost use Rattle.field.specs.Field.{p, InverseTable};
 
 const INVERSES: [u32; 256] = [
     1,
@@ -263,7 +263,7 @@ const INVERSES: [u32; 256] = [
 // The whole table, handed out once: a lookup in the constant itself copies all of it. A caller keeps what it
 // gets, `let t = inverses();`, and lends `&t` to its loops. The inverse of n is entry n - 1.
 pub fn inverses() -> [u32; 256]
-    ensures { λ r. ⌜ InverseTable r ⌝ }
+    ensures { λ r. ⌜ InverseTable p r ⌝ }
 {
     INVERSES
 }

@@ -19,6 +19,9 @@ use Rattle.assignment.specs.Assignment.{wordsVerdict, assignmentVerdict}
 use Rattle.assignment.proofs.Accepted.{assignment-formed}
 use Rattle.qap.specs.Polynomials.{blinderWords}
 use Rattle.qap.specs.Refusals.{pointVerdict, readyVerdict, answersVerdict}
+use Rattle.field.specs.Field.{p}
+use Rattle.field.proofs.PrimeField.{field-prime}
+use Rattle.qap.specs.Setting.{standard}
 use Rattle.job_file.specs.File.{mostBytes, mostWords, assignmentOf, trailer, blindersOf, pointOf, sizeVerdict, trailerVerdict, fileVerdict, jobVerdict}
 use Rattle.job_file.specs.Given.{givenVerdict, restVerdict}
 use Rattle.job_file.specs.Read.{Split, Read}
@@ -38,7 +41,7 @@ size-words size h =
     record { whole = omega arith; few = omega arith }
 
 -- the verdict as the code goes by it
-pub file-rest : (w : List ℕ) → fileVerdict w ≡ prefixVerdict w andThen restVerdict (leading w) (drop (ending w) w)
+pub file-rest : (w : List ℕ) → fileVerdict w ≡ prefixVerdict p w andThen restVerdict (leading w) (drop (ending w) w)
 unfolding fileVerdict restVerdict givenVerdict
 file-rest w = refl
 
@@ -50,14 +53,14 @@ pub trailer-six : (t : List ℕ) → Accepted (trailerVerdict t) → length t �
 unfolding trailerVerdict
 trailer-six t h = eqb-true _ _ (taken _ _ _ (lit< tt) h .0)
 
-pub record Ready (w : List ℕ) : Type 0 where
-  pub circuit : Accepted (circuitVerdict (leading w))
-  pub assignment : Accepted (assignmentVerdict (leading w) (assignmentOf w))
+pub record Ready standard (w : List ℕ) : Type 0 where
+  pub circuit : Accepted (circuitVerdict p (leading w))
+  pub assignment : Accepted (assignmentVerdict p (leading w) (assignmentOf w))
   pub remains : length (trailer w) ≡ 6
-  pub blinders : Accepted (wordsVerdict 12 0 (blinderWords (blindersOf w)))
-  pub point : Accepted (pointVerdict (leading w) (pointOf w))
+  pub blinders : Accepted (wordsVerdict p 12 0 (blinderWords (blindersOf w)))
+  pub point : Accepted (pointVerdict standard (leading w) (pointOf w))
 
-pub file-ready : (w : List ℕ) → Accepted (fileVerdict w) → Ready w
+pub file-ready : (w : List ℕ) → Accepted (fileVerdict w) → Ready standard w
 unfolding fileVerdict
 file-ready w h =
     let begun = accepted-parts h in
@@ -65,7 +68,7 @@ file-ready w h =
     let shaped = accepted-parts (assigned .1) in
     let blinded = accepted-parts (shaped .1) in
     record {
-      circuit = leading-accepted w (begun .0);
+      circuit = leading-accepted p w (begun .0);
       assignment = assigned .0;
       remains = trailer-six (trailer w) (shaped .0);
       blinders = blinded .0;
@@ -73,15 +76,15 @@ file-ready w h =
     }
 
 pub file-answers-ready : (w : List ℕ) → Accepted (fileVerdict w) →
-    Accepted (readyVerdict (leading w) (assignmentOf w) (blindersOf w))
+    Accepted (readyVerdict standard (leading w) (assignmentOf w) (blindersOf w))
 unfolding readyVerdict
 file-answers-ready w h =
     let ready = file-ready w h in
-    accepted-both (ready .circuit) (accepted-both (ready .assignment) (ready .blinders))
+    accepted-both (ready standard .circuit) (accepted-both (ready standard .assignment) (ready standard .blinders))
 
 -- with 10 last: the call for answers accepts what the file holds
 pub job-answers : (w : List ℕ) → Accepted (jobVerdict w) →
-    Accepted (answersVerdict (leading w) (assignmentOf w) (blindersOf w) (pointOf w))
+    Accepted (answersVerdict standard (leading w) (assignmentOf w) (blindersOf w) (pointOf w))
 unfolding jobVerdict answersVerdict
 job-answers w h =
     let parts = accepted-parts h in
@@ -115,10 +118,10 @@ unfolding fileVerdict
 ends w h =
     let ready = file-ready w h in
     let in-words = ends-within (prefix-formed w (accepted-parts h .0)) in
-    let remains = simp length-drop at (ready .remains) in
+    let remains = simp length-drop at (ready standard .remains) in
     record {
       circuit = length-take-le (ending w) w in-words;
-      assignment = assignment-formed _ _ (ready .assignment) .size;
+      assignment = assignment-formed field-prime _ _ (ready standard .assignment) .size;
       within = omega arith;
       whole = omega arith;
     }

@@ -20,6 +20,9 @@ use Rattle.rows.specs.Rows.{rowVerdict, rowsVerdict}
 use Rattle.qap.specs.declared.FourAnswers.{FourAnswers}
 use Rattle.qap.specs.Polynomials.{blinderWords}
 use Rattle.qap.specs.Refusals.{answerWords, pointVerdict, lengthVerdict, checkAnswersVerdict}
+use Rattle.circuit.proofs.Rows.{row-range}
+use Rattle.field.specs.Field.{p}
+use Rattle.qap.specs.Setting.{standard}
 use Rattle.job_file.specs.File.{assignmentOf, blindersOf, pointOf, sizeVerdict, trailerVerdict, fileVerdict, jobVerdict}
 use Rattle.job_file.proofs.FileLaws.{file-ready}
 
@@ -49,52 +52,52 @@ module _ {bound : ℕ} where
 
   ruleset near = (near-require, near-next)
 
-  near-words : (number from : ℕ) (a : List ℕ) → from + length a ≤ bound → Near bound (wordsVerdict number from a)
+  near-words : (number from : ℕ) (a : List ℕ) → from + length a ≤ bound → Near bound (wordsVerdict p number from a)
   unfolding wordsVerdict
   near-words number from a l =
       near-first (each number from a) (length a) (λ i inside. near-require _ number (from + i) (omega arith))
 
-  near-entry : (c : List ℕ) (s e : ℕ) → entryAt s e ≤ bound → Near bound (entryVerdict c s e)
+  near-entry : (c : List ℕ) (s e : ℕ) → entryAt s e ≤ bound → Near bound (entryVerdict p c s e)
   unfolding entryVerdict rangesVerdict
   near-entry c s e l = search near depth 16
 
   -- a bound of at least the most rows, and of as many words as there are
   module _ (enough : mostRows ≤ bound) where
     module _ (c : List ℕ) (few : length c ≤ bound) where
-      near-section : (s : ℕ) → Near bound (sectionVerdict c s)
+      near-section : (s : ℕ) → Near bound (sectionVerdict p c s)
       unfolding sectionVerdict
       near-section s = near-then (near-require _ _ _ few) (λ inside.
           let counted = ltb-true s (length c) (require-accepted _ _ _ (lit< tt) inside) in
           near-then (near-require _ _ _ (omega arith)) (λ small.
           near-then (near-require _ _ _ few) (λ there.
           let room = leb-true _ (length c) (require-accepted _ _ _ (lit< tt) there) in
-          near-first (entryVerdict c s) (entries c s) (λ e l. near-entry c s e (omega arith)))))
+          near-first (entryVerdict p c s) (entries c s) (λ e l. near-entry c s e (omega arith)))))
 
-      near-prefix : Near bound (prefixVerdict c)
+      near-prefix : Near bound (prefixVerdict p c)
       unfolding prefixVerdict countsVerdict
       near-prefix =
           let zeroth : 0 ≤ bound = omega arith in
           let first-word : 1 ≤ bound = omega arith in
           let second : 2 ≤ bound = omega arith in
-          let each = near-first (λ matrix. sectionVerdict c (section c matrix)) 3 (λ k l. near-section (section c k)) in
+          let each = near-first (λ matrix. sectionVerdict p c (section c matrix)) 3 (λ k l. near-section (section c k)) in
           search near depth 16
 
-      near-circuit : Near bound (circuitVerdict c)
+      near-circuit : Near bound (circuitVerdict p c)
       unfolding circuitVerdict
       near-circuit = let begun = near-prefix in search near
 
-      near-values : Near bound (valuesVerdict c)
+      near-values : Near bound (valuesVerdict p c)
       unfolding valuesVerdict
       near-values = near-then (near-require _ _ _ (omega arith)) (λ one. near-words 7 0 c (omega arith))
 
-    near-assignment : (c a : List ℕ) → length a ≤ bound → Near bound (assignmentVerdict c a)
+    near-assignment : (c a : List ℕ) → length a ≤ bound → Near bound (assignmentVerdict p c a)
     unfolding assignmentVerdict
     near-assignment c a few =
         let zeroth : 0 ≤ bound = omega arith in
         let values = near-values a few in
         search near depth 16
 
-    near-public : (c b : List ℕ) → length b ≤ bound → Near bound (publicVerdict c b)
+    near-public : (c b : List ℕ) → length b ≤ bound → Near bound (publicVerdict p c b)
     unfolding publicVerdict
     near-public c b few =
         let zeroth : 0 ≤ bound = omega arith in
@@ -105,18 +108,18 @@ module _ {bound : ℕ} where
     unfolding lengthVerdict
     near-length given wanted l = search near
 
-    near-point : (c : List ℕ) (s : ℕ) → Near bound (pointVerdict c s)
+    near-point : (c : List ℕ) (s : ℕ) → Near bound (pointVerdict standard c s)
     unfolding pointVerdict
     near-point c s = let zeroth : 0 ≤ bound = omega arith in search near
 
-    pub near-rows : (c a : List ℕ) → Accepted (circuitVerdict c) → Near bound (rowsVerdict c a)
+    pub near-rows : (c a : List ℕ) → Accepted (circuitVerdict p c) → Near bound (rowsVerdict p c a)
     unfolding rowsVerdict rowVerdict
     near-rows c a h =
         let formed = circuit-formed c h .formed in
-        near-first (λ i. rowVerdict c a (suc i)) (rows c) (λ i l. near-require _ 10 (suc i) (omega (arith, formed .row-count)))
+        near-first (λ i. rowVerdict p c a (suc i)) (rows c) (λ i l. near-require _ 10 (suc i) (omega (arith, row-range (formed))))
 
     pub near-check-answers : (c b : List ℕ) (s : ℕ) (r : FourAnswers) → length c ≤ bound → length b ≤ bound →
-        Near bound (checkAnswersVerdict c b s r)
+        Near bound (checkAnswersVerdict standard c b s r)
     unfolding checkAnswersVerdict
     near-check-answers c b s r few-c few-b =
         let read = near-circuit c few-c in

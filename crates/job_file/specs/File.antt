@@ -13,6 +13,8 @@ use Rattle.rows.specs.Rows.{rowsVerdict}
 use Rattle.qap.specs.declared.Blinders.{Blinders}
 use Rattle.qap.specs.Polynomials.{blinderWords}
 use Rattle.qap.specs.Refusals.{pointVerdict}
+use Rattle.field.specs.Field.{p}
+use Rattle.qap.specs.Setting.{standard}
 
 -- how a file's words are split: the circuit at their front is `leading w`
 
@@ -52,12 +54,12 @@ trailerVerdict t =
 -- the circuit, where too few words is 1; the assignment, where fewer than n + 2 words left is 6; 14; then 12, 11
 unfoldable pub fileVerdict : List ℕ → Outcome
 fileVerdict w =
-    prefixVerdict w
-    andThen assignmentVerdict (leading w) (assignmentOf w)
+    prefixVerdict p w
+    andThen assignmentVerdict p (leading w) (assignmentOf w)
     andThen trailerVerdict (trailer w)
-    andThen wordsVerdict 12 0 (blinderWords (blindersOf w))
-    andThen pointVerdict (leading w) (pointOf w)
+    andThen wordsVerdict p 12 0 (blinderWords (blindersOf w))
+    andThen pointVerdict standard (leading w) (pointOf w)
 
 -- and 10 last
 unfoldable pub jobVerdict : List ℕ → Outcome
-jobVerdict w = fileVerdict w andThen rowsVerdict (leading w) (assignmentOf w)
+jobVerdict w = fileVerdict w andThen rowsVerdict p (leading w) (assignmentOf w)

@@ -11,6 +11,8 @@ use Rattle.assignment.specs.Assignment.{wordsVerdict, assignmentVerdict}
 use Rattle.qap.specs.declared.Blinders.{Blinders}
 use Rattle.qap.specs.Polynomials.{blinderWords}
 use Rattle.qap.specs.Refusals.{pointVerdict}
+use Rattle.field.specs.Field.{p}
+use Rattle.qap.specs.Setting.{standard}
 use Rattle.job_file.specs.File.{trailerVerdict}
 
 abbrev pub blindersIn : List ℕ → Blinders
@@ -19,10 +21,10 @@ blindersIn t = record { first = word t 1; second = word t 2; third = word t 3 }
 -- circuit, assignment, and what remains after them
 unfoldable pub givenVerdict : List ℕ → List ℕ → List ℕ → Outcome
 givenVerdict c a t =
-    assignmentVerdict c a
+    assignmentVerdict p c a
     andThen trailerVerdict t
-    andThen wordsVerdict 12 0 (blinderWords (blindersIn t))
-    andThen pointVerdict c (word t 5)
+    andThen wordsVerdict p 12 0 (blinderWords (blindersIn t))
+    andThen pointVerdict standard c (word t 5)
 
 -- circuit, and all words after it
 unfoldable pub restVerdict : List ℕ → List ℕ → Outcome

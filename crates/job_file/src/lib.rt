@@ -2,6 +2,7 @@
 ghost use mathlib.Core.Path.{_≡_};
 ghost use lib.ListN.{length};
 ghost use Rattle.circuit.specs.WellFormed.{Formed};
+ghost use Rattle.field.specs.Field.{p};
 ghost use Rattle.job_file.specs.File.{sizeVerdict, trailerVerdict};
 ghost use Rattle.job_file.specs.Given.{blindersIn, givenVerdict, restVerdict};
 ghost use Rattle.job_file.specs.Read.{Read};
@@ -59,7 +60,7 @@ fn blinders_in(t: &[u32]) -> Blinders
 
 // The assignment, then what remains after it.
 fn given_verdict(circuit: &[u32], values: &[u32], t: &[u32]) -> Outcome
-    requires { ⌜ Formed (now circuit) ⌝ }
+    requires { ⌜ Formed p (now circuit) ⌝ }
     ensures { λ r. ⌜ r ≡ givenVerdict (now (circuit .entry)) (now (values .entry)) (now (t .entry)) ⌝ }
 {
     let shaped = assignment_words_verdict(circuit, values).and_then(trailer_verdict(t));
@@ -71,7 +72,7 @@ fn given_verdict(circuit: &[u32], values: &[u32], t: &[u32]) -> Outcome
 
 // All that follows the circuit.
 fn rest_verdict(circuit: &[u32], rest: &[u32]) -> Outcome
-    requires { ⌜ Formed (now circuit) ⌝ }
+    requires { ⌜ Formed p (now circuit) ⌝ }
     ensures { λ r. ⌜ r ≡ restVerdict (now (circuit .entry)) (now (rest .entry)) ⌝ }
 {
     let size = circuit::counts::columns_of(circuit) + 2;

@@ -10,7 +10,7 @@ ghost use Rattle.poly.specs.Interpolation.{differences, newton, powers, 
 
 // (value − y) times the inverse of 1, of 2, .., for the values after y.
 fn subtract_and_divide(v: &mut [u32], y: u32, inverses: &[u32; 256])
-    requires { ⌜ (length (now v) < 256) × (y < p) × Words p (now v) × InverseTable (now inverses) ⌝ }
+    requires { ⌜ (length (now v) < 256) × (y < p) × Words p (now v) × InverseTable p (now inverses) ⌝ }
     ensures { λ _. ⌜ now (v .exit) ≡ differences p (now (inverses .entry)) y (now (v .entry)) ⌝ }
 {
     let minus_y = field::P - y;
@@ -23,7 +23,7 @@ fn subtract_and_divide(v: &mut [u32], y: u32, inverses: &[u32; 256])
 
 // Newton's coefficients of the values.
 fn divide_differences(v: &mut [u32], inverses: &[u32; 256])
-    requires { ⌜ (length (now v) ≤ 256) × Words p (now v) × InverseTable (now inverses) ⌝ }
+    requires { ⌜ (length (now v) ≤ 256) × Words p (now v) × InverseTable p (now inverses) ⌝ }
     ensures { λ _. ⌜ now (v .exit) ≡ newton p (now (inverses .entry)) (length (now (v .entry))) (now (v .entry)) ⌝ }
 {
     let mut done = 0;
@@ -48,7 +48,7 @@ fn expand_powers(v: &mut [u32], first: u32)
 
 // The list through the values v at 1, 2, .., in their place.
 pub fn interpolate(v: &mut [u32], inverses: &[u32; 256])
-    requires { ⌜ (length (now v) ≤ 256) × Words p (now v) × InverseTable (now inverses) ⌝ }
+    requires { ⌜ (length (now v) ≤ 256) × Words p (now v) × InverseTable p (now inverses) ⌝ }
     ensures { λ _. ⌜ now (v .exit) ≡ interpolated p (now (inverses .entry)) 1 (now (v .entry)) ⌝ }
 {
     divide_differences(v, inverses);

@@ -4,7 +4,7 @@ ghost use mathlib.Core.Path.{_≡_};
 ghost use Prim.Native.Nat.{_+_, _-_, _%_, _≤_, _<_};
 ghost use lib.ListN.{length};
 ghost use Rattle.algebra.specs.Polynomial.{value, divided, product, reduced};
-ghost use Rattle.algebra.specs.Points.{consecutive, target};
+ghost use Rattle.algebra.specs.Points.{consecutive, rowPoints, target};
 ghost use Rattle.field.specs.Field.{p};
 ghost use Rattle.poly.specs.AddScaled.{scaled};
 ghost use Rattle.poly.specs.Factor.{timesFactor};
@@ -71,7 +71,7 @@ pub fn target_from(z: &mut [u32], first: u32)
 // The target of 1..m, into m + 1 words.
 pub fn target(z: &mut [u32])
     requires { ⌜ (0 < length (now z)) × (length (now z) < 4294967296) ⌝ }
-    ensures { λ _. ⌜ now (z .exit) ≡ target p (consecutive 1 (length (now (z .entry)) - 1)) ⌝ }
+    ensures { λ _. ⌜ now (z .exit) ≡ target p (rowPoints (length (now (z .entry)) - 1)) ⌝ }
 {
     target_from(z, 1);
 }

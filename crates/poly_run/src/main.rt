@@ -56,14 +56,14 @@ fn long_target() {
 }
 
 fn column(v: &mut [u32], inverses: &[u32; 256])
-    requires { ⌜ (length (now v) ≤ 256) × Words p (now v) × InverseTable (now inverses) ⌝ }
+    requires { ⌜ (length (now v) ≤ 256) × Words p (now v) × InverseTable p (now inverses) ⌝ }
 {
     poly::interpolation::interpolate(v, inverses);
     samples::line(v);
 }
 
 fn columns(inverses: &[u32; 256])
-    requires { ⌜ InverseTable (now inverses) ⌝ }
+    requires { ⌜ InverseTable p (now inverses) ⌝ }
 {
     let mut b = [1u32, 0];
     column(&mut b, inverses);
@@ -78,7 +78,7 @@ fn sparse_column() {
 }
 
 fn long_column(inverses: &[u32; 256])
-    requires { ⌜ InverseTable (now inverses) ⌝ }
+    requires { ⌜ InverseTable p (now inverses) ⌝ }
 {
     let mut v = [0u32; 256];
     v[255] = 1;

@@ -21,6 +21,9 @@ use Rattle.qap.specs.Refusals.{lengthVerdict, targetVerdict, quotientVerdict, a
 use Rattle.qap.proofs.Settings.{answers-ready}
 use Rattle.job_file.specs.File.{assignmentOf, blindersOf, pointOf, fileVerdict, jobVerdict}
 use Rattle.job_file.proofs.FileLaws.{file-ready, file-answers-ready}
+use Rattle.circuit.proofs.Rows.{row-range}
+use Rattle.field.specs.Field.{p}
+use Rattle.qap.specs.Setting.{standard}
 use Rattle.printed_job.specs.Lines.{fiveLines, FiveOf, Reports}
 use Rattle.printed_job.specs.TextUpTo.{TextUpTo}
 
@@ -42,31 +45,31 @@ module _ {verdict o : Outcome} (Done : List ℕ → Type 0) (e : o ≡ verdict) 
 
 -- past the file's verdict the call for answers decides: only 10 is left
 pub file-goes-on : (w : List ℕ) → Accepted (fileVerdict w) →
-    jobVerdict w ≡ answersVerdict (leading w) (assignmentOf w) (blindersOf w) (pointOf w)
+    jobVerdict w ≡ answersVerdict standard (leading w) (assignmentOf w) (blindersOf w) (pointOf w)
 unfolding jobVerdict answersVerdict
 file-goes-on w h = goes-on _ h ∙ sym (goes-on _ (file-answers-ready w h) ∙ goes-on _ (file-ready w h .point))
 
 -- what the calls for target and quotient need, once the answers' verdict is 0
-module _ (c a : List ℕ) (d : Blinders) (s : ℕ) (h : Accepted (answersVerdict c a d s)) where
-  pub answers-formed : Formed c
-  answers-formed = circuit-formed c (answers-ready c a d s h .given .circuit) .formed
+module _ (c a : List ℕ) (d : Blinders) (s : ℕ) (h : Accepted (answersVerdict standard c a d s)) where
+  pub answers-formed : Formed p c
+  answers-formed = circuit-formed c (answers-ready standard c a d s h .given .circuit) .formed
 
   exact : {size : ℕ} → size ≡ rows c + 1 → Accepted (lengthVerdict size (rows c + 1))
   unfolding lengthVerdict
   exact e = accepted-require _ _ (eq-eqb _ _ e)
 
-  pub target-accepted : {size : ℕ} → size ≡ rows c + 1 → Accepted (targetVerdict (rows c) size)
+  pub target-accepted : {size : ℕ} → size ≡ rows c + 1 → Accepted (targetVerdict standard (rows c) size)
   unfolding targetVerdict
-  target-accepted e = accepted-both (accepted-require _ _ (within-true (answers-formed .row-count))) (exact e)
+  target-accepted e = accepted-both (accepted-require _ _ (within-true (row-range (answers-formed)))) (exact e)
 
-  pub quotient-accepted : {size : ℕ} → size ≡ rows c + 1 → Accepted (quotientVerdict c a d size)
+  pub quotient-accepted : {size : ℕ} → size ≡ rows c + 1 → Accepted (quotientVerdict standard c a d size)
   unfolding quotientVerdict answersVerdict
-  quotient-accepted e = accepted-both (accepted-parts h .0) (accepted-both (exact e) (answers-ready c a d s h .rows-hold))
+  quotient-accepted e = accepted-both (accepted-parts h .0) (accepted-both (exact e) (answers-ready standard c a d s h .rows-hold))
 
   -- the five lines of what the calls gave
   pub five-written : {r : FourAnswers} {m : ℕ} {z z' f f' b before bytes : List ℕ} {end : ℕ} {o o' check : Outcome} →
-      IsAnswers c a d s r → m ≡ rows c → length z ≡ rows c + 1 → length f ≡ rows c + 1 →
-      TargetCall m z z' o → QuotientCall c a d f f' o' → b ≡ publicSection c a → CheckAnswersCall c b s r check →
+      IsAnswers standard c a d s r → m ≡ rows c → length z ≡ rows c + 1 → length f ≡ rows c + 1 →
+      TargetCall standard m z z' o → QuotientCall standard c a d f f' o' → b ≡ publicSection p c a → CheckAnswersCall standard c b s r check →
       TextUpTo (λ t. t ≡ fiveLines z' f' r (check .number)) before bytes end → TextUpTo (FiveOf c a d s) before bytes end
   five-written {r} {z = z} {z' = z'} {f' = f'} {o = o} {check = check} answered rows-of z-size f-size target quotient handed judged w = record {
     says = record {
@@ -82,8 +85,8 @@ module _ (c a : List ℕ) (d : Blinders) (s : ℕ) (h : Accepted (answersVerdict
     within = w .within;
   }
     where
-      counted : TargetCall (rows c) z z' o
+      counted : TargetCall standard (rows c) z z' o
       counted = rw rows-of at target
 
-      z-is : z' ≡ targetOf c
+      z-is : z' ≡ targetOf standard c
       z-is = counted .done (target-accepted z-size)

@@ -19,13 +19,14 @@ use Rattle.qap.proofs.Quotients.{quotient-unique}
 use Rattle.qap.proofs.Settings.{answers-ready, distinct-points}
 use Rattle.job_file.specs.File.{jobVerdict}
 use Rattle.job_file.proofs.FileLaws.{job-answers}
+use Rattle.qap.specs.Setting.{standard}
 use Rattle.printed_job.specs.Lines.{programVerdict, FiveOf, FiveLines, Prints}
 use Rattle.printed_job.specs.TextUpTo.{TextUpTo, blank}
 
-module _ {c a : List ℕ} {d : Blinders} {s : ℕ} (h : Accepted (answersVerdict c a d s)) where
+module _ {c a : List ℕ} {d : Blinders} {s : ℕ} (h : Accepted (answersVerdict standard c a d s)) where
   five-determined : {t t' : List ℕ} → FiveOf c a d s t → FiveOf c a d s t' → t ≡ t'
   five-determined {t} {t'} x y =
-      let distinct = distinct-points c (answers-ready c a d s h .given .circuit) in
+      let distinct = distinct-points c (answers-ready standard c a d s h .given .circuit) in
       let quotient = quotient-unique c a distinct d (x .is-quotient) (y .is-quotient) in
       let answers = answers-unique c a distinct d s (x .are-answers) (y .are-answers) in
       let check : x .check ≡ y .check = judged-once (x .is-check) (rw answers (y .is-check)) in
@@ -34,7 +35,7 @@ module _ {c a : List ℕ} {d : Blinders} {s : ℕ} (h : Accepted (answersVerdict
   -- the tablet accepts what the box answers
   five-check : {t : List ℕ} (x : FiveOf c a d s t) → x .check .number ≡ 0
   five-check x =
-      let call : AnswersCall c a d s fine (x .answers) = record {
+      let call : AnswersCall standard c a d s fine (x .answers) = record {
         number-and-place = sym (proper-answers c a d s .fine-if-accepted h);
         done = λ _. x .are-answers;
         none = λ r. absurd (not-both h r);

@@ -16,6 +16,8 @@ use Rattle.qap.specs.Answers.{IsAnswers}
 use Rattle.qap.specs.Refusals.{answerWords, answersVerdict}
 use Rattle.qap.specs.Calls.{CheckAnswersCall}
 use Rattle.job_file.specs.File.{assignmentOf, blindersOf, pointOf, sizeVerdict, jobVerdict}
+use Rattle.field.specs.Field.{p}
+use Rattle.qap.specs.Setting.{standard}
 
 -- 14 for the length first, then what the words say
 unfoldable pub programVerdict : List ℕ → Outcome
@@ -39,10 +41,10 @@ pub record FiveOf (c a : List ℕ) (d : Blinders) (s : ℕ) (text : List ℕ) : 
   pub quotient : List ℕ
   pub answers : FourAnswers
   pub check : Outcome
-  pub is-quotient : IsQuotient c a d quotient
-  pub are-answers : IsAnswers c a d s answers
-  pub is-check : CheckAnswersCall c (publicSection c a) s answers check
-  pub lines : text ≡ fiveLines (targetOf c) quotient answers (check .number)
+  pub is-quotient : IsQuotient standard c a d quotient
+  pub are-answers : IsAnswers standard c a d s answers
+  pub is-check : CheckAnswersCall standard c (publicSection p c a) s answers check
+  pub lines : text ≡ fiveLines (targetOf standard c) quotient answers (check .number)
 
 -- for a file's words
 abbrev pub FiveLines : List ℕ → List ℕ → Type 0
@@ -56,7 +58,7 @@ pub record Reports (verdict : Outcome) (Done : List ℕ → Type 0) (text : List
 -- the text of a job's parts, of a file's words, and of a file's bytes
 
 abbrev pub PrintsParts : List ℕ → List ℕ → Blinders → ℕ → List ℕ → Type 0
-PrintsParts c a d s = Reports (answersVerdict c a d s) (FiveOf c a d s)
+PrintsParts c a d s = Reports (answersVerdict standard c a d s) (FiveOf c a d s)
 
 abbrev pub PrintsWords : List ℕ → List ℕ → Type 0
 PrintsWords w = Reports (jobVerdict w) (FiveLines w)

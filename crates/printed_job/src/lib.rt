@@ -7,6 +7,7 @@ ghost use Rattle.outcome.specs.Verdict.{Accepted};
 ghost use Rattle.text.specs.Text.{line};
 ghost use Rattle.qap.specs.Answers.{IsAnswers};
 ghost use Rattle.qap.specs.Refusals.{answersVerdict};
+ghost use Rattle.qap.specs.Setting.{standard};
 ghost use Rattle.printed_job.specs.Lines.{mostCoefficients, fiveLines, FiveOf, PrintsParts, PrintsWords, Prints};
 ghost use Rattle.printed_job.specs.TextUpTo.{TextUpTo, textRoom, blank};
 use outcome::Outcome;
@@ -53,7 +54,7 @@ fn print_five(
     r: FourAnswers,
     text: &mut [u8],
 ) -> usize
-    requires { ⌜ Accepted (answersVerdict (now circuit) (now values) d s) × IsAnswers (now circuit) (now values) d s r ⌝ }
+    requires { ⌜ Accepted (answersVerdict standard (now circuit) (now values) d s) × IsAnswers standard (now circuit) (now values) d s r ⌝ }
     requires { ⌜ textRoom ≤ length (now text) ⌝ }
     ensures { λ end. ⌜ TextUpTo (FiveOf (now (circuit .entry)) (now (values .entry)) d s) (now (text .entry)) (now (text .exit)) end ⌝ }
 {

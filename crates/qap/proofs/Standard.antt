@@ -7,31 +7,42 @@ use Prim.Native.Nat.{ℕ, _+_, _-_, _≤_, _<_}
 use native.Mathlib.Nat.{le-of-eq}
 use native.Mathlib.Omega.{arith}
 use lib.ListN.{length, getD}
-use Rattle.outcome.specs.Verdict.{Within, within}
+use Rattle.outcome.specs.Verdict.{Accepted, Within, within}
 use Rattle.outcome.proofs.Verdict.{apart, within-true, true-within}
 use Rattle.algebra.specs.Points.{rowPoints, among}
-use Rattle.algebra.proofs.Consecutive.{length-consecutive, consecutive-at, distinct-consecutive}
+use Rattle.algebra.proofs.Consecutive.{length-rowPoints, rowPoints-at, distinct-rowPoints}
 use Rattle.algebra.proofs.Among.{among-at, among-some}
 use Rattle.field.proofs.PrimeField.{field-prime}
 use Rattle.circuit.specs.Circuit.{rows}
 use Rattle.qap.specs.Setting.{Sound, pointsOf, standard}
+use Rattle.qap.specs.Polynomials.{quotientLength}
+use Rattle.qap.specs.Refusals.{targetVerdict}
+use Rattle.qap.proofs.Settings.{target-size}
 
 pub sound : Sound standard
 sound = record {
   field = field-prime;
   sound-points = λ m range. record {
     words = record {
-      below = λ i l. let inside : i < m = omega (arith, length-consecutive 1 m) in
-          rw (consecutive-at 1 m i inside) (omega (arith, range .at-most, field-prime .above));
+      below = λ i l. let inside : i < m = omega (arith, length-rowPoints m) in
+          rw (rowPoints-at m i inside) (omega (arith, range .at-most, field-prime .above));
     };
-    distinct = distinct-consecutive 1 m (omega (arith, range .at-most, field-prime .above));
-    enough = le-of-eq (sym (length-consecutive 1 m));
-    few = omega (arith, length-consecutive 1 m, range .at-most);
+    distinct = distinct-rowPoints m (omega (arith, range .at-most, field-prime .above));
+    enough = le-of-eq (sym (length-rowPoints m));
+    few = omega (arith, length-rowPoints m, range .at-most);
   };
 }
 
 pub count-points : (c : List ℕ) → length (pointsOf standard c) ≡ rows c
-count-points c = length-consecutive 1 (rows c)
+count-points c = length-rowPoints (rows c)
+
+-- words of the target and of the quotient: one more than there are rows
+
+pub target-words : (m size : ℕ) → Accepted (targetVerdict standard m size) → size ≡ m + 1
+target-words m size h = omega (arith, target-size standard m size h, length-rowPoints m)
+
+pub quotient-words : (c : List ℕ) → quotientLength standard c ≡ rows c + 1
+quotient-words c = omega (arith, count-points c)
 
 -- two tests that pass alike
 alike : (a b : Bool) → (a ≡ true → b ≡ true) → (b ≡ true → a ≡ true) → a ≡ b
@@ -43,12 +54,12 @@ pub among-rows : (s m : ℕ) → among s (rowPoints m) ≡ within 1 s m
 among-rows s m = alike (among s (rowPoints m)) (within 1 s m)
     (λ h.
     let (i, l, e) = among-some s (rowPoints m) h in
-    let inside : i < m = omega (arith, length-consecutive 1 m) in
-    let place = consecutive-at 1 m i inside in
+    let inside : i < m = omega (arith, length-rowPoints m) in
+    let place = rowPoints-at m i inside in
     let range : Within 1 s m = record { at-least = omega arith; at-most = omega arith } in
     within-true range)
     (λ h.
     let range = true-within 1 s m h in
     let inside : s - 1 < m = omega (arith, range .at-least, range .at-most) in
-    let same : getD (rowPoints m) (s - 1) 0 ≡ s = omega (arith, consecutive-at 1 m (s - 1) inside, range .at-least) in
-    rw same at (among-at (rowPoints m) (s - 1) (omega (arith, length-consecutive 1 m))))
+    let same : getD (rowPoints m) (s - 1) 0 ≡ s = omega (arith, rowPoints-at m (s - 1) inside, range .at-least) in
+    rw same at (among-at (rowPoints m) (s - 1) (omega (arith, length-rowPoints m))))

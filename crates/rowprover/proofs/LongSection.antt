@@ -23,34 +23,36 @@ use Rattle.qap.specs.Calls.{Judged}
 use Rattle.refusals.proofs.Deciding.{judged-refused}
 use Rattle.job_file.specs.File.{sizeVerdict}
 use Rattle.job_file.proofs.FileLaws.{size-words}
+use Rattle.field.specs.Field.{p}
+use Rattle.qap.specs.Setting.{standard}
 use Rattle.rowprover.specs.Exports.{mostSectionBytes}
 
 module _ (c b : List ℕ) (long : 257 < length b) where
   six : Refused (outcome 6 0)
   six = record { is-positive = omega arith }
 
-  section-refused : Accepted (circuitVerdict c) → publicVerdict c b ≡ outcome 6 0
+  section-refused : Accepted (circuitVerdict p c) → publicVerdict p c b ≡ outcome 6 0
   unfolding publicVerdict
   section-refused h =
       let formed = circuit-formed c h .formed in
       let other : eqb (length b) (publics c + 1) ≡ false = ne-eqb _ _ (λ (e : length b ≡ publics c + 1). omega (arith, long, formed .public-count, formed .column-count)) in
       rw (fails 6 0 other) (stops _ six)
 
-  long-verdict : (s : ℕ) (r : FourAnswers) → checkAnswersVerdict c b s r ≡ circuitVerdict c andThen outcome 6 0
+  long-verdict : (s : ℕ) (r : FourAnswers) → checkAnswersVerdict standard c b s r ≡ circuitVerdict p c andThen outcome 6 0
   unfolding checkAnswersVerdict
   long-verdict s r = ⊎-elim
-      (λ (h : Accepted (circuitVerdict c)). rw (goes-on _ h, goes-on (outcome 6 0) h, section-refused h) (stops _ six))
-      (λ (h : Refused (circuitVerdict c)). stops _ h ∙ sym (stops _ h))
-      (accepted-or-refused (circuitVerdict c))
+      (λ (h : Accepted (circuitVerdict p c)). rw (goes-on _ h, goes-on (outcome 6 0) h, section-refused h) (stops _ six))
+      (λ (h : Refused (circuitVerdict p c)). stops _ h ∙ sym (stops _ h))
+      (accepted-or-refused (circuitVerdict p c))
 
-  refused : Refused (circuitVerdict c andThen outcome 6 0)
+  refused : Refused (circuitVerdict p c andThen outcome 6 0)
   refused = ⊎-elim
-      (λ (h : Accepted (circuitVerdict c)). rw (goes-on (outcome 6 0) h) six)
-      (λ (h : Refused (circuitVerdict c)). rw (stops (outcome 6 0) h) h)
-      (accepted-or-refused (circuitVerdict c))
+      (λ (h : Accepted (circuitVerdict p c)). rw (goes-on (outcome 6 0) h) six)
+      (λ (h : Refused (circuitVerdict p c)). rw (stops (outcome 6 0) h) h)
+      (accepted-or-refused (circuitVerdict p c))
 
-  long-judged : (s : ℕ) (r : FourAnswers) (Equal : Type 0) {o : Outcome} → o ≡ circuitVerdict c andThen outcome 6 0 →
-      Judged (checkAnswersVerdict c b s r) Equal o
+  long-judged : (s : ℕ) (r : FourAnswers) (Equal : Type 0) {o : Outcome} → o ≡ circuitVerdict p c andThen outcome 6 0 →
+      Judged (checkAnswersVerdict standard c b s r) Equal o
   long-judged s r Equal e = judged-refused Equal (e ∙ sym (long-verdict s r)) (λ zero. omega (arith, (rw (← e) at refused) .is-positive))
 
 failed : (t : Bool) (number place : ℕ) → Refused (require t number place) → t ≡ false
@@ -60,12 +62,12 @@ failed false number place r = refl
 
 -- as it is tested, on the section's bytes
 pub long-section : (c bytes : List ℕ) {short o : Outcome} (s : ℕ) (r : FourAnswers) (Equal : Type 0) → Accepted (sizeVerdict (length bytes)) →
-    short ≡ require (leb (length bytes) mostSectionBytes) 6 0 → (short .number ≡ 0 → ⊥) → o ≡ circuitVerdict c andThen short →
-    Judged (checkAnswersVerdict c (unpacked bytes) s r) Equal o
+    short ≡ require (leb (length bytes) mostSectionBytes) 6 0 → (short .number ≡ 0 → ⊥) → o ≡ circuitVerdict p c andThen short →
+    Judged (checkAnswersVerdict standard c (unpacked bytes) s r) Equal o
 long-section c bytes {short} s r Equal whole tested long e =
     let test = failed (leb (length bytes) mostSectionBytes) 6 0 (is-refused tested long) in
     let six : short ≡ outcome 6 0 = tested ∙ fails 6 0 test in
     let size = size-words (length bytes) whole in
     let words = length-unpacked bytes (length bytes / 4) (size .whole) in
     long-judged c (unpacked bytes) (omega (arith, leb-false (length bytes) mostSectionBytes test, size .whole, words)) s r Equal
-    (e ∙ ap (λ (x : Outcome). circuitVerdict c andThen x) six)
+    (e ∙ ap (λ (x : Outcome). circuitVerdict p c andThen x) six)

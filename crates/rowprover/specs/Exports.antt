@@ -16,6 +16,8 @@ use Rattle.qap.specs.Answers.{IsAnswers, AnswersAgree}
 use Rattle.qap.specs.Refusals.{answerWords, lengthVerdict, checkAnswersVerdict}
 use Rattle.qap.specs.Calls.{Filled, Judged, CheckAnswersCall}
 use Rattle.job_file.specs.File.{assignmentOf, blindersOf, pointOf, sizeVerdict, fileVerdict}
+use Rattle.field.specs.Field.{p}
+use Rattle.qap.specs.Setting.{standard}
 
 -- bytes of the four answers
 abbrev pub answersBytes : ℕ
@@ -38,7 +40,7 @@ integer o = 256 * o .place + o .number
 -- the four answers as 16 bytes
 pub record AnswerBytes (c a : List ℕ) (d : Blinders) (s : ℕ) (bytes : List ℕ) : Type 0 where
   pub answers : FourAnswers
-  pub are-answers : IsAnswers c a d s answers
+  pub are-answers : IsAnswers standard c a d s answers
   pub are-bytes : bytes ≡ packed (answerWords answers)
 
 abbrev pub JobBytes : List ℕ → List ℕ → Type 0
@@ -46,7 +48,7 @@ JobBytes w bytes = AnswerBytes (leading w) (assignmentOf w) (blindersOf w) (poin
 
 -- what the words of a job say, with 8 (place 16) between 11 and 10
 unfoldable pub wordsThenSize : List ℕ → ℕ → Outcome
-wordsThenSize w size = fileVerdict w andThen lengthVerdict size answersBytes andThen rowsVerdict (leading w) (assignmentOf w)
+wordsThenSize w size = fileVerdict w andThen lengthVerdict size answersBytes andThen rowsVerdict p (leading w) (assignmentOf w)
 
 -- answers refuses as the program does: 14 for the length first
 unfoldable pub answersBytesVerdict : List ℕ → ℕ → Outcome
@@ -55,7 +57,7 @@ answersBytesVerdict job size = sizeVerdict (length job) andThen wordsThenSize (u
 -- the lent bytes past all checks but 10, from a job's words, and from its bytes
 
 abbrev pub RowsFilled : List ℕ → List ℕ → Blinders → ℕ → List ℕ → List ℕ → Outcome → Type 0
-RowsFilled c a d s old new o = Filled (rowsVerdict c a) (AnswerBytes c a d s) old new o
+RowsFilled c a d s old new o = Filled (rowsVerdict p c a) (AnswerBytes c a d s) old new o
 
 abbrev pub WordsFilled : List ℕ → List ℕ → List ℕ → Outcome → Type 0
 WordsFilled w old new o = Filled (wordsThenSize w (length old)) (JobBytes w) old new o
@@ -78,7 +80,7 @@ queryAnswers w = record { first = word w 1; second = word w 2; third = word w 3;
 
 -- the word call, on the words of a query
 abbrev pub CheckWords : List ℕ → List ℕ → List ℕ → Outcome → Type 0
-CheckWords c b w o = CheckAnswersCall c b (queryPoint w) (queryAnswers w) o
+CheckWords c b w o = CheckAnswersCall standard c b (queryPoint w) (queryAnswers w) o
 
 -- 14 if one of the first two is above 37,944 bytes or no multiple of 4, or the last is not 20
 unfoldable pub sizesVerdict : ℕ → ℕ → ℕ → Outcome
@@ -91,11 +93,11 @@ sizesVerdict circuit section query =
 unfoldable pub checkBytesVerdict : List ℕ → List ℕ → List ℕ → Outcome
 checkBytesVerdict circuit section query =
     sizesVerdict (length circuit) (length section) (length query)
-    andThen checkAnswersVerdict (unpacked circuit) (unpacked section) (queryPoint (unpacked query)) (queryAnswers (unpacked query))
+    andThen checkAnswersVerdict standard (unpacked circuit) (unpacked section) (queryPoint (unpacked query)) (queryAnswers (unpacked query))
 
 abbrev pub CheckBytes : List ℕ → List ℕ → List ℕ → Outcome → Type 0
 CheckBytes circuit section query o = Judged (checkBytesVerdict circuit section query)
-    (AnswersAgree (unpacked circuit) (unpacked section) (queryPoint (unpacked query)) (queryAnswers (unpacked query))) o
+    (AnswersAgree standard (unpacked circuit) (unpacked section) (queryPoint (unpacked query)) (queryAnswers (unpacked query))) o
 
 pub record CheckExport (circuit section query : List ℕ) (result : ℕ) : Type 0 where
   pub outcome : Outcome

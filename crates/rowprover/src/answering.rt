@@ -6,6 +6,7 @@ ghost use Rattle.packing.specs.Packing.{packed};
 ghost use Rattle.qap.specs.declared.Blinders.{Blinders};
 ghost use Rattle.qap.specs.declared.FourAnswers.{FourAnswers};
 ghost use Rattle.qap.specs.Refusals.{answerWords, readyVerdict, pointVerdict};
+ghost use Rattle.qap.specs.Setting.{standard};
 ghost use Rattle.rowprover.specs.Exports.{answersBytes, RowsFilled, WordsFilled, JobFilled};
 use outcome::Outcome;
 use qap::Blinders;
@@ -25,7 +26,7 @@ fn write_answers(r: FourAnswers, out: &mut [u8])
 
 // 10, then the answers.
 fn answers_of(circuit: &[u32], values: &[u32], d: Blinders, s: u32, out: &mut [u8]) -> Outcome
-    requires { ⌜ Accepted (readyVerdict (now circuit) (now values) d) × Accepted (pointVerdict (now circuit) s) × (length (now out) ≡ answersBytes) ⌝ }
+    requires { ⌜ Accepted (readyVerdict standard (now circuit) (now values) d) × Accepted (pointVerdict standard (now circuit) s) × (length (now out) ≡ answersBytes) ⌝ }
     ensures { λ o. ⌜ RowsFilled (now (circuit .entry)) (now (values .entry)) d s (now (out .entry)) (now (out .exit)) o ⌝ }
 {
     let found = answers::answer_rows(circuit, values, d, s);

@@ -2,7 +2,7 @@
 ghost use mathlib.Core.Path.{_≡_};
 ghost use lib.ListN.{length};
 ghost use Rattle.outcome.specs.Verdict.{Accepted};
-ghost use Rattle.algebra.specs.Points.{consecutive, target};
+ghost use Rattle.algebra.specs.Points.{rowPoints, target};
 ghost use Rattle.field.specs.Field.{p};
 ghost use Rattle.qap.specs.Refusals.{targetVerdict};
 ghost use Rattle.qap.specs.Calls.{TargetCall};
@@ -22,7 +22,7 @@ fn target_verdict(m: u32, size: usize) -> Outcome
 
 fn fill_target(m: u32, out: &mut [u32])
     requires { ⌜ Accepted (targetVerdict standard m (length (now out))) ⌝ }
-    ensures { λ _. ⌜ now (out .exit) ≡ target p (consecutive 1 m) ⌝ }
+    ensures { λ _. ⌜ now (out .exit) ≡ target p (rowPoints m) ⌝ }
 {
     poly::target(out);
 }

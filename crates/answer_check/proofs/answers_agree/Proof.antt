@@ -17,6 +17,9 @@ use Rattle.rows.specs.Sums.{Span}
 use Rattle.rows.proofs.Parts.{span-public}
 use Rattle.qap.proofs.Settings.{CheckReady, check-ready}
 use Rattle.evaluation.specs.Values.{PartGiven}
+use Rattle.circuit.proofs.Rows.{row-range}
+use Rattle.field.proofs.PrimeField.{field-prime}
+use Rattle.qap.specs.Setting.{standard}
 use Rattle.answer_check.proofs.AnswerChecks.{public-value, answers-decided}
 use Rattle.answer_check.proofs.answers_agree.Statement.{statement}
 use Rattle.answer_check.proofs.answers_agree.Tie as tie
@@ -24,18 +27,18 @@ use Rattle.answer_check.proofs.answers_agree.Tie as tie
 abbrev start : (c : tie.After-rows-of) → tie.Start
 start c = c .before .before .before
 
-ready : (c : tie.Start) → CheckReady (c .args .circuit .now) (c .args .section .now) (c .args .s) (c .args .r)
-ready c = check-ready _ _ _ _ (c .pre)
+ready : (c : tie.Start) → CheckReady standard (c .args .circuit .now) (c .args .section .now) (c .args .s) (c .args .r)
+ready standard c = check-ready standard _ _ _ _ (c .pre)
 
-formed : (c : tie.Start) → Formed (c .args .circuit .now)
-formed c = circuit-formed _ (ready c .circuit) .formed
+formed : (c : tie.Start) → Formed p (c .args .circuit .now)
+formed c = circuit-formed _ (ready standard c .circuit) .formed
 
 -- where the rows are counted, before the room is made
 abbrev counted : (c : tie.After-room) → tie.After-rows-of
 counted c = c .before .before .before
 
 lent : (c : tie.After-room) → Front (counted c .rows-of .result) (c .room .result)
-lent c = front _ 257 (omega (arith, counted c .rows-of .ensures, formed (start (counted c)) .row-count .at-most)) (c .room .ensures)
+lent c = front _ 257 (omega (arith, counted c .rows-of .ensures, row-range (formed (start (counted c))) .at-most)) (c .room .ensures)
 
 abbrev room : (c : tie.After-basis-values) → tie.After-room
 room c = c .before .before .before
@@ -53,12 +56,12 @@ at c = rw (made c .words) (rw (sym (lent (room c) .size) ∙ counted (room c) .r
 basis : tie.Need-basis-values-requires
 basis c κs =
     let counting = counted (c .before .before) in
-    let few = formed (start counting) .row-count in
+    let few = row-range (formed (start counting)) in
     let size = lent (c .before .before) .size in
     let all = counting .rows-of .ensures in
     (omega (arith, few .at-least), omega (arith, few .at-most), c .before .before .before .inverses .ensures)
 
-public-span : {c b : List ℕ} {q : ℕ} → Formed c → PublicFormed c b → q ≡ publics c → Span c b 0 q
+public-span : {c b : List ℕ} {q : ℕ} → Formed p c → PublicFormed p c b → q ≡ publics c → Span c b 0 q
 public-span circuit section count = rw count (span-public circuit section)
 
 given : (c : tie.After-basis-values) (matrix : ℕ) → matrix < 3 →
@@ -69,7 +72,7 @@ given c matrix below =
     record {
       circuit = formed begun;
       of-three = below;
-      span = public-span (formed begun) (public-formed _ _ (ready begun .section)) (room c .before .before .publics-of .ensures);
+      span = public-span (formed begun) (public-formed field-prime _ _ (ready standard begun .section)) (room c .before .before .publics-of .ensures);
       size = sym (made c .size) ∙ counted (room c) .rows-of .ensures;
     }
 
@@ -82,7 +85,7 @@ returns c =
     let begun = start (counted (room based)) in
     let s = begun .args .s in
     let q = room based .before .before .publics-of .ensures in
-    answers-decided _ _ (ready begun .circuit) s _ (at based) (public-value s q (at based) (first .part-value .ensures))
+    answers-decided _ _ (ready standard begun .circuit) s _ (at based) (public-value s q (at based) (first .part-value .ensures))
     (public-value s q (at based) (second .part-value2 .ensures)) (public-value s q (at based) (third .part-value3 .ensures)) (c .words-agree .ensures)
 
 pub answers-agree-spec : {M : Type 1} → statement M

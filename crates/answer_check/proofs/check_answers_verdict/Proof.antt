@@ -5,10 +5,11 @@ use Rattle.outcome.proofs.Verdict.{is-accepted}
 use Rattle.circuit.specs.WellFormed.{Formed}
 use Rattle.circuit.proofs.Formed.{circuit-formed}
 use Rattle.qap.specs.Refusals.{checkAnswersVerdict}
+use Rattle.field.specs.Field.{p}
 use Rattle.answer_check.proofs.check_answers_verdict.Statement.{statement}
 use Rattle.answer_check.proofs.check_answers_verdict.Tie as tie
 
-formed : (c : tie.Else1) → Formed (c .before .before .before .before .before .args .circuit .now)
+formed : (c : tie.Else1) → Formed p (c .before .before .before .before .before .args .circuit .now)
 formed c = circuit-formed _ (is-accepted (c .before .before .circuit-verdict .ensures) (c .if1 .left)) .formed
 
 returns : tie.Need-returns

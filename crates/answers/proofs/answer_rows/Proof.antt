@@ -10,20 +10,24 @@ use Rattle.circuit.proofs.Formed.{circuit-formed}
 use Rattle.assignment.proofs.Accepted.{assignment-formed}
 use Rattle.qap.specs.Refusals.{answersVerdict}
 use Rattle.qap.proofs.Settings.{Ready, ready}
+use Rattle.circuit.proofs.Rows.{row-range}
+use Rattle.field.specs.Field.{p}
+use Rattle.field.proofs.PrimeField.{field-prime}
+use Rattle.qap.specs.Setting.{standard}
 use Rattle.answers.proofs.answer_rows.Statement.{statement}
 use Rattle.answers.proofs.answer_rows.Tie as tie
 
 abbrev start : (c : tie.After-rows-of) → tie.Start
 start c = c .before .before .before
 
-known : (c : tie.Start) → Ready (c .args .circuit .now) (c .args .values .now) (c .args .d)
-known c = ready _ _ _ (c .pre .0)
+known : (c : tie.Start) → Ready standard (c .args .circuit .now) (c .args .values .now) (c .args .d)
+known c = ready standard _ _ _ (c .pre .0)
 
-formed : (c : tie.Start) → Formed (c .args .circuit .now)
+formed : (c : tie.Start) → Formed p (c .args .circuit .now)
 formed c = circuit-formed _ (known c .circuit) .formed
 
 few : (c : tie.After-rows-of) → c .rows-of .result ≤ 257
-few c = omega (arith, c .rows-of .ensures, formed (start c) .row-count .at-most)
+few c = omega (arith, c .rows-of .ensures, row-range (formed (start c)) .at-most)
 
 front-a : (c : tie.After-room) → Front (c .before .rows-of .result) (c .room .result)
 front-a c = front _ 257 (few (c .before)) (c .room .ensures)
@@ -55,7 +59,7 @@ requires c κs =
     let made = c .before .before .before in
     let counting = made .before .before .before in
     let rows = counting .rows-of .ensures in (
-      (formed (start counting), assignment-formed _ _ (known (start counting) .assignment)),
+      (formed (start counting), assignment-formed field-prime _ _ (known (start counting) .assignment)),
       (sym (front-a (made .before .before) .size) ∙ rows, sym (front-b (made .before) .size) ∙ rows, sym (front-c made .size) ∙ rows),
     )
 

@@ -14,19 +14,21 @@ use Rattle.qap.specs.declared.FourAnswers.{FourAnswers}
 use Rattle.qap.specs.Refusals.{readyVerdict, pointVerdict, answersVerdict}
 use Rattle.qap.specs.Calls.{noAnswers, AnswersCall}
 use Rattle.qap.proofs.Settings.{ready}
+use Rattle.field.specs.Field.{p}
+use Rattle.qap.specs.Setting.{standard}
 use Rattle.answers.proofs.answers.Statement.{statement}
 use Rattle.answers.proofs.answers.Tie as tie
 
 module _ (c a : List ℕ) (d : Blinders) (s : ℕ) where
-  refusal : {o told : Outcome} {r : FourAnswers} → told ≡ answersVerdict c a d s → (told .number ≡ 0 → ⊥) → o ≡ told → r ≡ noAnswers →
-      AnswersCall c a d s o r
+  refusal : {o told : Outcome} {r : FourAnswers} → told ≡ answersVerdict standard c a d s → (told .number ≡ 0 → ⊥) → o ≡ told → r ≡ noAnswers →
+      AnswersCall standard c a d s o r
   refusal told positive same empty = record {
     number-and-place = same ∙ told;
     done = λ h. absurd (not-both h (is-refused told positive));
     none = λ h. empty;
   }
 
-  by-rows : Accepted (readyVerdict c a d) → Accepted (pointVerdict c s) → answersVerdict c a d s ≡ rowsVerdict c a
+  by-rows : Accepted (readyVerdict standard c a d) → Accepted (pointVerdict standard c s) → answersVerdict standard c a d s ≡ rowsVerdict p c a
   unfolding answersVerdict
   by-rows given pointed = goes-on _ given ∙ goes-on _ pointed
 
@@ -38,7 +40,7 @@ returns c =
 
 pointed : tie.Need-point-verdict-requires
 pointed c κs =
-    circuit-formed _ (ready _ _ _ (is-accepted (c .before .before .ready-verdict .ensures) (c .if1 .left)) .circuit) .formed
+    circuit-formed _ (ready standard _ _ _ (is-accepted (c .before .before .ready-verdict .ensures) (c .if1 .left)) .circuit) .formed
 
 returns-2 : tie.Need-returns-2
 unfolding answersVerdict

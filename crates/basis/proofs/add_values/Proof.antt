@@ -6,10 +6,10 @@ use native.Mathlib.Numerals.{add-one}
 use native.Mathlib.Omega.{arith}
 use borrow.Author.Needs.{needs}
 use lib.ListN.{length, getD}
-use Rattle.algebra.specs.Points.{consecutive}
+use Rattle.algebra.specs.Points.{rowPoints}
 use Rattle.algebra.specs.Polynomial.{divided}
 use Rattle.algebra.proofs.Target.{length-target}
-use Rattle.algebra.proofs.Consecutive.{length-consecutive, consecutive-at, distinct-consecutive}
+use Rattle.algebra.proofs.Consecutive.{length-rowPoints, rowPoints-at, distinct-consecutive}
 use Rattle.field.specs.Field.{p}
 use Rattle.field.proofs.PrimeField.{p-prime}
 use Rattle.poly.specs.AddScaled.{scaled}
@@ -20,21 +20,21 @@ use Rattle.basis.proofs.add_values.Tie as tie
 
 abbrev Inv-loop : tie.InvT-loop
 Inv-loop out₀ y z weights i₀ out i =
-    (i ≤ length y) × AddedFirst p (consecutive 1 (length y)) (λ k. getD y k 0) i out₀ out
+    (i ≤ length y) × AddedFirst p (rowPoints (length y)) (λ k. getD y k 0) i out₀ out
 
 abbrev μ-loop : tie.MeasureT-loop
 μ-loop out₀ y z weights i₀ out i = length y - i
 
 -- one value more that is not 0
 step : (y z ws : List ℕ) (i : ℕ) {old out new : List ℕ} {d : ℕ} → length y ≡ length old → Prepared p (length y) z ws → i < length y →
-    AddedFirst p (consecutive 1 (length y)) (λ k. getD y k 0) i old out → d ≡ getD y i 0 * getD ws i 0 % p →
-    new ≡ scaled p d (divided (i + 1) z) out → AddedFirst p (consecutive 1 (length y)) (λ k. getD y k 0) (i + 1) old new
+    AddedFirst p (rowPoints (length y)) (λ k. getD y k 0) i old out → d ≡ getD y i 0 * getD ws i 0 % p →
+    new ≡ scaled p d (divided (i + 1) z) out → AddedFirst p (rowPoints (length y)) (λ k. getD y k 0) (i + 1) old new
 step y z ws i size ready inside so-far e n =
     let m = length y in
-    let xs = consecutive 1 m in
-    let many : length xs ≡ m = length-consecutive 1 m in
+    let xs = rowPoints m in
+    let many : length xs ≡ m = length-rowPoints m in
     let few = ready .few in
-    let point : getD xs i 0 ≡ suc i = omega (arith, consecutive-at 1 m i inside) in
+    let point : getD xs i 0 ≡ suc i = omega (arith, rowPoints-at m i inside) in
     let distinct = distinct-consecutive {p = p} 1 m (omega arith) in
     rw (n, e, ready .is-target, add-one i)
     (rw point at (added-column so-far (omega arith) p-prime distinct (ready .are-weights) (sym size ∙ sym many)))
@@ -46,19 +46,19 @@ ready c = rw (c .pre .0) (c .pre .2)
 loop-holds : tie.Need-loop-holds Inv-loop μ-loop
 loop-holds c =
     let start = c .before .before .before .before in
-    (search needs, added-none (consecutive 1 (length (start .args .y .now))) _ (start .pre .1))
+    (search needs, added-none (rowPoints (length (start .args .y .now))) _ (start .pre .1))
 
 read-weight : tie.Need-shared-slice-read-weight Inv-loop μ-loop
 read-weight c =
     let start = c .before .before .before .before .before .before .before .before in
-    omega (arith, ready start .are-weights .size, length-consecutive 1 (length (start .args .y .now)))
+    omega (arith, ready start .are-weights .size, length-rowPoints (length (start .args .y .now)))
 
 add-divided-requires : tie.Need-add-divided-requires Inv-loop μ-loop
 add-divided-requires c κs =
     let start = c .before .before .before .before .before .before .before .before .before .before .before in
     let m = length (start .args .y .now) in
     let so-far = c .before .before .before .before .before .before .loop .inv .1 in
-    rw (ready start .is-target) (omega (arith, length-target p (consecutive 1 m), length-consecutive 1 m, so-far .size, start .pre .0))
+    rw (ready start .is-target) (omega (arith, length-target p (rowPoints m), length-rowPoints m, so-far .size, start .pre .0))
 
 loop-again : tie.Need-loop-again Inv-loop μ-loop
 loop-again c =
@@ -74,7 +74,7 @@ loop-again-2 : tie.Need-loop-again-2 Inv-loop μ-loop
 loop-again-2 c =
     let now = c .before .before .before .before .loop in
     let m = length (c .before .before .before .before .before .before .before .before .before .args .y .now) in
-    (search needs, rw (add-one (now .i)) (added-zero (now .inv .1) (omega (arith, length-consecutive 1 m)) (c .if1 .left)))
+    (search needs, rw (add-one (now .i)) (added-zero (now .inv .1) (omega (arith, length-rowPoints m)) (c .if1 .left)))
 
 returns : tie.Need-returns Inv-loop μ-loop
 returns c =

@@ -3,7 +3,7 @@ use mathlib.Core.Path.{_≡_, sym, _∙_}
 use native.Mathlib.Omega.{arith}
 use borrow.Author.Needs.{needs}
 use lib.ListN.{length}
-use Rattle.algebra.proofs.Consecutive.{length-consecutive}
+use Rattle.algebra.proofs.Consecutive.{length-rowPoints}
 use Rattle.field.specs.Field.{p}
 use Rattle.slices.specs.Zeros.{zeros}
 use Rattle.slices.proofs.Rooms.{length-zeros}
@@ -27,7 +27,7 @@ returns c =
     let start = c .before .before .before .before .before .before .before .before .before .before .before .before in
     let m = length (start .args .y .now) in
     let cleared = c .before .before .before .before .before .before .clear .ensures in
-    through-added (length-consecutive 1 m) (rw (start .pre .0) cleared) (c .before .before .add-values .ensures)
+    through-added (length-rowPoints m) (rw (start .pre .0) cleared) (c .before .before .add-values .ensures)
 
 pub column-through-spec : {M : Type 1} → statement M
 column-through-spec = tie.close (tie.spec (λ c κs. search needs) add-values-requires (λ c. search needs) returns)

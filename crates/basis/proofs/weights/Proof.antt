@@ -10,10 +10,10 @@ use borrow.Author.Needs.{needs}
 use lib.ListN.{length, getD, set, length-set}
 use lib.Seq.{getD-set-same, getD-set-other}
 use Rattle.algebra.specs.Congruence.{Inverse}
-use Rattle.algebra.specs.Points.{consecutive}
+use Rattle.algebra.specs.Points.{rowPoints}
 use Rattle.algebra.specs.Basis.{descent}
 use Rattle.algebra.proofs.ConsecutiveBasis.{ascent, apartness-consecutive}
-use Rattle.algebra.proofs.Consecutive.{length-consecutive}
+use Rattle.algebra.proofs.Consecutive.{length-rowPoints}
 use Rattle.field.specs.Field.{p}
 use Rattle.basis.proofs.WeightLaws.{moved-on, same-inverse}
 use Rattle.basis.proofs.weights.Statement.{statement}
@@ -71,7 +71,7 @@ returns : tie.Need-returns Inv-loop μ-loop
 returns c =
     let now = c .before .loop in
     let m = length (c .before .before .before .before .args .out .now) in
-    let size : length (consecutive 1 m) ≡ m = length-consecutive 1 m in
+    let size : length (rowPoints m) ≡ m = length-rowPoints m in
     record {
       size = now .inv .1 ∙ sym size;
       inverse = λ i l. same-inverse (apartness-consecutive {p = p} (omega arith) 1 m i (omega arith)) (now .inv .3 i (omega arith));

@@ -6,6 +6,7 @@ use Rattle.outcome.proofs.Verdict.{is-accepted}
 use Rattle.circuit.proofs.Formed.{circuit-formed}
 use Rattle.qap.proofs.Columns.{column-asked}
 use Rattle.qap.proofs.Filling.{filled-refused, filled-done}
+use Rattle.qap.specs.Setting.{standard}
 use Rattle.columns.proofs.ColumnLaws.{one-column}
 use Rattle.columns.proofs.column.Statement.{statement}
 use Rattle.columns.proofs.column.Tie as tie
@@ -16,7 +17,7 @@ returns c = filled-refused _ (c .before .before .column-verdict .ensures) _ (c .
 accepted : tie.Need-fill-columns-requires
 accepted c κs =
     let verdict = c .before .before .before in
-    let asked = column-asked _ _ _ _ (is-accepted (verdict .column-verdict .ensures) (c .before .if1 .left)) in
+    let asked = column-asked standard _ _ _ _ (is-accepted (verdict .column-verdict .ensures) (c .before .if1 .left)) in
     let formed = circuit-formed _ (asked .circuit) .formed in
     record {
       circuit = formed;

@@ -6,6 +6,7 @@ use Rattle.outcome.proofs.Verdict.{is-accepted}
 use Rattle.circuit.proofs.Formed.{circuit-formed}
 use Rattle.qap.proofs.Columns.{ColumnsAsked, columns-asked}
 use Rattle.qap.proofs.Filling.{filled-refused, filled-done}
+use Rattle.qap.specs.Setting.{standard}
 use Rattle.columns.proofs.ColumnLaws.{all-columns}
 use lib.ListN.{length}
 use Rattle.columns.proofs.columns.Statement.{statement}
@@ -13,8 +14,8 @@ use Rattle.columns.proofs.columns.Tie as tie
 
 asked : (c : tie.Else1) →
     let start = c .before .before .before .before .before in
-    ColumnsAsked (start .args .circuit .now) (start .args .matrix) (length (start .args .out .now))
-asked c = columns-asked _ _ _ (is-accepted (c .before .before .columns-verdict .ensures) (c .if1 .left))
+    ColumnsAsked standard (start .args .circuit .now) (start .args .matrix) (length (start .args .out .now))
+asked c = columns-asked standard _ _ _ (is-accepted (c .before .before .columns-verdict .ensures) (c .if1 .left))
 
 returns : tie.Need-returns
 returns c = filled-refused _ (c .before .before .columns-verdict .ensures) _ (c .if1 .taken)

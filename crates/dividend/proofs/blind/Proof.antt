@@ -4,8 +4,8 @@ use native.Mathlib.Omega.{arith}
 use borrow.Author.Needs.{needs}
 use lib.ListN.{length, set, length-set}
 use lib.Seq.{length-take-le, length-front}
-use Rattle.algebra.specs.Points.{consecutive}
-use Rattle.algebra.proofs.Consecutive.{length-consecutive}
+use Rattle.algebra.specs.Points.{rowPoints}
+use Rattle.algebra.proofs.Consecutive.{length-rowPoints}
 use Rattle.algebra.proofs.Target.{length-target}
 use Rattle.field.specs.Field.{p}
 use Rattle.dividend.proofs.BlindedLaws.{values-kept, last-zero, blinded-law}
@@ -33,7 +33,7 @@ add-scaled-requires c κs =
     let m = start (part .before) .args .m in
     let out = start (part .before) .args .out .now in
     let whole = length-front (set out m 0) (part .interpolate .last .0) m (part .interpolate .kept .0) in
-    omega (arith, whole, length-set out m 0, ap length (given .is-target), length-target p (consecutive 1 m), length-consecutive 1 m)
+    omega (arith, whole, length-set out m 0, ap length (given .is-target), length-target p (rowPoints m), length-rowPoints m)
 
 same-length : tie.Need-same-length
 same-length c =

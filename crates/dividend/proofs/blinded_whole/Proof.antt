@@ -3,6 +3,7 @@ use mathlib.Core.Path.{sym, _∙_}
 use native.Mathlib.Omega.{arith}
 use borrow.Author.Needs.{needs}
 use lib.Seq.{length-take-le}
+use Rattle.circuit.proofs.Rows.{row-range}
 use Rattle.dividend.proofs.WholeLaws.{whole-size, whole-words, whole-blinded}
 use Rattle.dividend.proofs.blinded_whole.Statement.{statement}
 use Rattle.dividend.proofs.blinded_whole.Tie as tie
@@ -19,7 +20,7 @@ blind-requires c κs =
     let given = start .pre .0 in
     let made = c .before .before .before .whole-sums .ensures in (
       record {
-        few = omega (arith, given .circuit .row-count .at-most, given .count);
+        few = omega (arith, row-range (given .circuit) .at-most, given .count);
         is-target = rw (given .count) (given .is-target);
         room = whole-size _ _ _ _ _ _ (given .count) (start .pre .2) made;
       },

@@ -4,11 +4,12 @@ use Prim.Native.Nat.{_+_, _≤_}
 use native.Mathlib.Omega.{arith}
 use borrow.Author.Needs.{needs}
 use Rattle.slices.proofs.Rooms.{Front, Back, front, back}
+use Rattle.circuit.proofs.Rows.{row-range}
 use Rattle.dividend.proofs.dividend.Statement.{statement}
 use Rattle.dividend.proofs.dividend.Tie as tie
 
 few : (c : tie.Start) → c .args .m + 1 ≤ 257
-few c = omega (arith, c .pre .count, c .pre .circuit .row-count .at-most)
+few c = omega (arith, c .pre .count, row-range (c .pre .circuit) .at-most)
 
 -- where each of the three rooms is made, lent, and back
 abbrev start : (c : tie.After-room) → tie.Start

@@ -6,8 +6,8 @@ use native.Mathlib.Omega.{arith}
 use borrow.Author.Needs.{needs}
 use lib.ListN.{length, take, drop}
 use lib.Seq.{length-take-le}
-use Rattle.algebra.specs.Points.{consecutive, target}
-use Rattle.algebra.proofs.Consecutive.{length-consecutive}
+use Rattle.algebra.specs.Points.{rowPoints, target}
+use Rattle.algebra.proofs.Consecutive.{length-rowPoints}
 use Rattle.algebra.proofs.Target.{length-target}
 use Rattle.field.specs.Field.{p}
 use Rattle.poly.specs.Division.{division, quotient}
@@ -16,17 +16,17 @@ use Rattle.dividend.proofs.take_quotient.Statement.{statement}
 use Rattle.dividend.proofs.take_quotient.Tie as tie
 
 -- the two parts that are lent
-size-low : (m : ℕ) {z : List ℕ} → z ≡ target p (consecutive 1 m) → length (take m z) ≡ m
-size-low m {z} e = length-take-le m z (omega (arith, ap length e, length-target p (consecutive 1 m), length-consecutive 1 m))
+size-low : (m : ℕ) {z : List ℕ} → z ≡ target p (rowPoints m) → length (take m z) ≡ m
+size-low m {z} e = length-take-le m z (omega (arith, ap length e, length-target p (rowPoints m), length-rowPoints m))
 
 size-work : (m : ℕ) (dividend : List ℕ) → m ≤ 256 → length dividend ≡ 513 → length (take (m + m + 1) dividend) ≡ m + m + 1
 size-work m dividend few size = length-take-le (m + m + 1) dividend (omega arith)
 
-divided : (m : ℕ) (dividend z out : List ℕ) {n : ℕ} → z ≡ target p (consecutive 1 m) → m ≤ 256 → length dividend ≡ 513 → n ≡ m + 1 →
+divided : (m : ℕ) (dividend z out : List ℕ) {n : ℕ} → z ≡ target p (rowPoints m) → m ≤ 256 → length dividend ≡ 513 → n ≡ m + 1 →
     out ≡ drop (length (take m z)) (division p (take m z) n (take (m + m + 1) dividend)) → out ≡ quotientOf m dividend
 unfolding quotientOf quotient
 divided m dividend z out {n} e few size count h =
-    let points = length-consecutive 1 m in
+    let points = length-rowPoints m in
     let words : length (take (m + m + 1) dividend) - m ≡ n = omega (arith, size-work m dividend few size) in
     h ∙ rw (size-low m e, e, points, words)
 

@@ -7,6 +7,7 @@ use Rattle.slices.proofs.Rooms.{Front, Back, front, back}
 use Rattle.circuit.proofs.Formed.{circuit-formed}
 use Rattle.qap.specs.Polynomials.{targetOf}
 use Rattle.dividend.proofs.GivenLaws.{target-made, ready-given}
+use Rattle.qap.specs.Setting.{standard}
 use Rattle.division_check.proofs.DivisionChecks.{ready, few, candidate-size, division-decided}
 use Rattle.division_check.proofs.candidate_divides.Statement.{statement}
 use Rattle.division_check.proofs.candidate_divides.Tie as tie
@@ -15,7 +16,7 @@ abbrev start : (c : tie.After-rows-of) → tie.Start
 start c = c .before .before .before .before
 
 counted : tie.Need-rows-of-requires
-counted c κs = circuit-formed _ (ready _ _ _ _ (c .before .before .before .pre) .given .circuit) .formed .counts
+counted c κs = circuit-formed _ (ready standard _ _ _ _ (c .before .before .before .pre) .given .circuit) .formed .counts
 
 small : (c : tie.After-rows-of) → c .rows-of .result ≤ 256
 small c = omega (arith, c .rows-of .ensures, few _ _ _ _ (start c .pre))
@@ -26,7 +27,7 @@ z-front c = front _ 257 (omega (arith, small (c .before))) (c .room .ensures)
 z-back : (c : tie.After-target) → Back (c .before .before .before .rows-of .result + 1) (c .before .before .room .result) (c .target .last .0)
 z-back c = back _ (z-front (c .before .before)) (c .target .kept .0)
 
-is-target : (c : tie.After-target) → c .target .last .0 ≡ targetOf (start (c .before .before .before) .args .circuit .now)
+is-target : (c : tie.After-target) → c .target .last .0 ≡ targetOf standard (start (c .before .before .before) .args .circuit .now)
 is-target c =
     let counting = c .before .before .before in
     target-made (start counting .args .circuit .now) (counting .rows-of .ensures) (z-front (c .before .before)) (c .target .ensures)
@@ -41,7 +42,7 @@ dividend-requires : tie.Need-dividend-requires
 dividend-requires c κs =
     let made = c .before .before in
     let counting = made .before .before .before in
-    rw (z-back made .words) (ready-given _ _ _ (ready _ _ _ _ (start counting .pre) .given) (counting .rows-of .ensures) (is-target made))
+    rw (z-back made .words) (ready-given _ _ _ (ready standard _ _ _ _ (start counting .pre) .given) (counting .rows-of .ensures) (is-target made))
 
 product-requires : tie.Need-product-requires
 product-requires c κs =

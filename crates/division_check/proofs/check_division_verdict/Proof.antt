@@ -7,11 +7,14 @@ use Rattle.circuit.specs.WellFormed.{Formed}
 use Rattle.circuit.proofs.Formed.{circuit-formed}
 use Rattle.qap.specs.Refusals.{checkDivisionVerdict}
 use Rattle.qap.proofs.Settings.{ready}
+use Rattle.circuit.proofs.Rows.{row-range}
+use Rattle.field.specs.Field.{p}
+use Rattle.qap.specs.Setting.{standard}
 use Rattle.division_check.proofs.check_division_verdict.Statement.{statement}
 use Rattle.division_check.proofs.check_division_verdict.Tie as tie
 
-formed : (c : tie.Else1) → Formed (c .before .before .before .before .before .before .args .circuit .now)
-formed c = circuit-formed _ (ready _ _ _ (is-accepted (c .before .before .ready-verdict .ensures) (c .if1 .left)) .circuit) .formed
+formed : (c : tie.Else1) → Formed p (c .before .before .before .before .before .before .args .circuit .now)
+formed c = circuit-formed _ (ready standard _ _ _ (is-accepted (c .before .before .ready-verdict .ensures) (c .if1 .left)) .circuit) .formed
 
 returns : tie.Need-returns
 unfolding checkDivisionVerdict
@@ -26,7 +29,7 @@ counted c κs = formed (c .before .before .before) .counts
 
 one-more : tie.Need-add-length-verdict
 one-more c =
-    let few = formed (c .before .before .before .before) .row-count .at-most in
+    let few = row-range (formed (c .before .before .before .before)) .at-most in
     let counted = c .rows-of .ensures in
     omega arith
 

@@ -4,6 +4,7 @@ use native.Mathlib.Omega.{arith}
 use borrow.Author.Needs.{needs}
 use lib.ListN.{length}
 use Rattle.slices.proofs.Rooms.{Front, Back, front, back}
+use Rattle.circuit.proofs.Rows.{row-range}
 use Rattle.evaluation.proofs.PartValues.{part-at}
 use Rattle.evaluation.proofs.part_value.Statement.{statement}
 use Rattle.evaluation.proofs.part_value.Tie as tie
@@ -14,7 +15,7 @@ start c = c .before .before .before .before
 lent : (c : tie.After-room) → Front (length (start c .args .basis .now)) (c .room .result)
 lent c =
     let given = start c .pre in
-    front _ 257 (omega (arith, given .size, given .circuit .row-count .at-most)) (c .room .ensures)
+    front _ 257 (omega (arith, given .size, row-range (given .circuit) .at-most)) (c .room .ensures)
 
 made : (c : tie.After-row-sums) →
     Back (length (start (c .before .before) .args .basis .now)) (c .before .before .room .result) (c .row-sums .last .1 .1 .1 .1 .1 .0)

@@ -9,6 +9,7 @@ use Rattle.circuit.specs.WellFormed.{Formed}
 use Rattle.assignment.specs.WellFormed.{AssignmentFormed}
 use Rattle.rows.specs.Sums.{Span}
 use Rattle.rows.proofs.Parts.{span-private}
+use Rattle.field.specs.Field.{p}
 use Rattle.evaluation.specs.Values.{PartGiven}
 use Rattle.evaluation.proofs.BlindedValues.{blinded-at}
 use Rattle.evaluation.proofs.private_parts.Statement.{statement}
@@ -17,7 +18,7 @@ use Rattle.evaluation.proofs.private_parts.Tie as tie
 abbrev start : (c : tie.After-columns-of) → tie.Start
 start c = c .before .before .before .before .before
 
-private-span : {c a : List ℕ} {q n : ℕ} → Formed c → AssignmentFormed c a → q ≡ publics c → n ≡ columns c → Span c a q n
+private-span : {c a : List ℕ} {q n : ℕ} → Formed p c → AssignmentFormed p c a → q ≡ publics c → n ≡ columns c → Span c a q n
 private-span circuit assignment first last = rw (first, last) (span-private circuit assignment)
 
 given : (c : tie.After-columns-of) (matrix : ℕ) → matrix < 3 →

@@ -9,6 +9,7 @@ use Rattle.outcome.proofs.Verdict.{is-accepted, accepted-parts, andThen-assoc}
 use Rattle.assignment.specs.Assignment.{wordsVerdict, assignmentVerdict}
 use Rattle.qap.specs.declared.Blinders.{Blinders}
 use Rattle.qap.specs.Polynomials.{blinderWords}
+use Rattle.field.specs.Field.{p}
 use Rattle.job_file.specs.File.{trailerVerdict}
 use Rattle.job_file.specs.Given.{givenVerdict}
 use Rattle.job_file.proofs.FileLaws.{trailer-six}
@@ -17,7 +18,7 @@ use Rattle.job_file.proofs.given_verdict.Tie as tie
 
 shaped : (c : tie.After-and-then) →
     let args = c .before .before .before .before .before .before .args in
-    c .and-then .result ≡ assignmentVerdict (args .circuit .now) (args .values .now) andThen trailerVerdict (args .t .now)
+    c .and-then .result ≡ assignmentVerdict p (args .circuit .now) (args .values .now) andThen trailerVerdict (args .t .now)
 shaped c = search chained depth 16
 
 six : (c : tie.Else1) → length (c .before .before .before .before .before .before .before .before .args .t .now) ≡ 6
@@ -32,7 +33,7 @@ unfolding givenVerdict
 returns-2 c =
     let blinded = c .before .before .before in
     let read = blinded .before .before in
-    let words = blinded .blinders-verdict .ensures ∙ ap (λ (d : Blinders). wordsVerdict 12 0 (blinderWords d)) (blinded .before .blinders-in .ensures) in
+    let words = blinded .blinders-verdict .ensures ∙ ap (λ (d : Blinders). wordsVerdict p 12 0 (blinderWords d)) (blinded .before .blinders-in .ensures) in
     called (shaped (read .before .before)) (read .if1 .left) (search chained depth 16) ∙ andThen-assoc _ _ _
 
 pub given-verdict-spec : {M : Type 1} → statement M

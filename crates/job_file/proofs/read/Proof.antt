@@ -16,6 +16,7 @@ use Rattle.circuit.specs.WellFormed.{Formed}
 use Rattle.circuit.proofs.Formed.{prefix-formed}
 use Rattle.circuit.proofs.Prefix.{leading-count, leading-formed}
 use Rattle.circuit.proofs.Sections.{ends-within}
+use Rattle.field.specs.Field.{p}
 use Rattle.job_file.specs.File.{trailer, blindersOf, pointOf, fileVerdict}
 use Rattle.job_file.specs.Given.{blindersIn, restVerdict}
 use Rattle.job_file.specs.Read.{Read, refused}
@@ -35,15 +36,15 @@ refusal w told positive given =
 
 module _ (w : List ℕ) where
   -- the circuit's verdict, where it refuses
-  begun-refused : {o : Outcome} → o ≡ prefixVerdict w → (o .number ≡ 0 → ⊥) → o ≡ fileVerdict w
+  begun-refused : {o : Outcome} → o ≡ prefixVerdict p w → (o .number ≡ 0 → ⊥) → o ≡ fileVerdict w
   begun-refused told positive = rw (file-rest w) (called-refused _ told positive)
 
-  module _ {end : ℕ} (begun : Accepted (prefixVerdict w)) (at : end ≡ ending w) where
+  module _ {end : ℕ} (begun : Accepted (prefixVerdict p w)) (at : end ≡ ending w) where
     -- the verdict of what follows the circuit
     found-after : {o : Outcome} → o ≡ restVerdict (take end w) (take (length w - end) (drop end w)) → o ≡ fileVerdict w
     found-after told = told ∙ rw (at, up-to-the-end (ending w) w, file-rest w, goes-on _ begun)
 
-    begins-formed : Formed (take end w)
+    begins-formed : Formed p (take end w)
     begins-formed = rw at (leading-formed w (prefix-formed w begun) .formed)
 
   module _ {last : ℕ} (at : last ≡ ending w + (columns (leading w) + 2)) where
@@ -56,7 +57,7 @@ module _ (w : List ℕ) where
     point : word w (last + 5) ≡ pointOf w
     point = rw (← getD-drop last w 5 0, remains)
 
-begun : (c : tie.Else1) → Accepted (prefixVerdict (c .before .before .before .before .args .words .now))
+begun : (c : tie.Else1) → Accepted (prefixVerdict p (c .before .before .before .before .args .words .now))
 begun c = is-accepted (c .before .before .prefix-verdict .ensures) (c .if1 .left)
 
 within : (c : tie.After-section-start) → c .section-start .result ≤ length (c .before .before .before .before .before .args .words .now)

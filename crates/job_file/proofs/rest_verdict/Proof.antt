@@ -11,12 +11,13 @@ use Rattle.outcome.specs.Verdict.{outcome}
 use Rattle.outcome.proofs.Chain.{unequal, called-refused, tested, tested-not}
 use Rattle.circuit.specs.Circuit.{columns}
 use Rattle.assignment.specs.Assignment.{assignmentVerdict}
+use Rattle.field.specs.Field.{p}
 use Rattle.job_file.specs.Given.{givenVerdict, restVerdict}
 use Rattle.job_file.proofs.FileLaws.{up-to-the-end}
 use Rattle.job_file.proofs.rest_verdict.Statement.{statement}
 use Rattle.job_file.proofs.rest_verdict.Tie as tie
 
-six : (c a : List ℕ) → length a < columns c + 2 → outcome 6 0 ≡ assignmentVerdict c a
+six : (c a : List ℕ) → length a < columns c + 2 → outcome 6 0 ≡ assignmentVerdict p c a
 unfolding assignmentVerdict
 six c a few = unequal _ tt (λ (e : length a ≡ columns c + 2). omega arith) refl
 

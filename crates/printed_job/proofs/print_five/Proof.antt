@@ -4,6 +4,7 @@ use Prim.Native.Nat.{ℕ, _+_, _≤_}
 use native.Mathlib.Omega.{arith}
 use borrow.Author.Needs.{needs}
 use Rattle.slices.proofs.Rooms.{Front, Back, front, back}
+use Rattle.circuit.proofs.Rows.{row-range}
 use Rattle.printed_job.proofs.LinesLaws.{answers-formed, five-written}
 use Rattle.printed_job.proofs.print_five.Statement.{statement}
 use Rattle.printed_job.proofs.print_five.Tie as tie
@@ -13,7 +14,7 @@ counted c κs = answers-formed _ _ _ _ (c .before .before .before .pre .0 .0) .c
 
 few : (c : tie.After-rows-of) → c .rows-of .result ≤ 256
 few c =
-    let most = answers-formed _ _ _ _ (c .before .before .before .before .pre .0 .0) .row-count .at-most in
+    let most = row-range (answers-formed _ _ _ _ (c .before .before .before .before .pre .0 .0)) .at-most in
     omega (arith, c .rows-of .ensures)
 
 z-front : (c : tie.After-room) → Front (c .before .rows-of .result + 1) (c .room .result)

@@ -11,6 +11,8 @@ use Rattle.qap.specs.Polynomials.{targetOf}
 use Rattle.qap.proofs.Settings.{QuotientReady, quotient-ready, few-rows, distinct-points}
 use Rattle.dividend.proofs.GivenLaws.{target-made, ready-given}
 use Rattle.dividend.proofs.QuotientLaws.{quotient-law}
+use Rattle.field.specs.Field.{p}
+use Rattle.qap.specs.Setting.{standard}
 use Rattle.quotient.proofs.fill_quotient.Statement.{statement}
 use Rattle.quotient.proofs.fill_quotient.Tie as tie
 
@@ -18,14 +20,14 @@ abbrev start : (c : tie.After-rows-of) → tie.Start
 start c = c .before .before .before .before
 
 -- what the accepted verdict says
-ready : (c : tie.Start) → QuotientReady (c .args .circuit .now) (c .args .values .now) (c .args .d) (length (c .args .out .now))
-ready c = quotient-ready _ _ _ _ (c .pre)
+ready : (c : tie.Start) → QuotientReady standard (c .args .circuit .now) (c .args .values .now) (c .args .d) (length (c .args .out .now))
+ready standard c = quotient-ready standard _ _ _ _ (c .pre)
 
 counted : tie.Need-rows-of-requires
-counted c κs = circuit-formed _ (ready (c .before .before .before) .given .circuit) .formed .counts
+counted c κs = circuit-formed _ (ready standard (c .before .before .before) .given .circuit) .formed .counts
 
 few : (c : tie.After-rows-of) → c .rows-of .result ≤ 256
-few c = omega (arith, c .rows-of .ensures, few-rows _ (ready (start c) .given .circuit))
+few c = omega (arith, c .rows-of .ensures, few-rows _ (ready standard (start c) .given .circuit))
 
 z-front : (c : tie.After-room) → Front (c .before .rows-of .result + 1) (c .room .result)
 z-front c = front _ 257 (omega (arith, few (c .before))) (c .room .ensures)
@@ -33,7 +35,7 @@ z-front c = front _ 257 (omega (arith, few (c .before))) (c .room .ensures)
 z-back : (c : tie.After-target) → Back (c .before .before .before .rows-of .result + 1) (c .before .before .room .result) (c .target .last .0)
 z-back c = back _ (z-front (c .before .before)) (c .target .kept .0)
 
-is-target : (c : tie.After-target) → c .target .last .0 ≡ targetOf (start (c .before .before .before) .args .circuit .now)
+is-target : (c : tie.After-target) → c .target .last .0 ≡ targetOf standard (start (c .before .before .before) .args .circuit .now)
 is-target c =
     let counting = c .before .before .before in
     target-made (start counting .args .circuit .now) (counting .rows-of .ensures) (z-front (c .before .before)) (c .target .ensures)
@@ -48,7 +50,7 @@ dividend-requires : tie.Need-dividend-requires
 dividend-requires c κs =
     let made = c .before .before in
     let counting = made .before .before .before in
-    rw (z-back made .words) (ready-given _ _ _ (ready (start counting) .given) (counting .rows-of .ensures) (is-target made))
+    rw (z-back made .words) (ready-given _ _ _ (ready standard (start counting) .given) (counting .rows-of .ensures) (is-target made))
 
 take-requires : tie.Need-take-quotient-requires
 take-requires c κs =
@@ -58,7 +60,7 @@ take-requires c κs =
     record {
       few = few counting;
       is-target = z-back made .words ∙ rw count (is-target made);
-      room = rw count (ready (start counting) .exact);
+      room = rw count (ready standard (start counting) .exact);
     }
 
 returns : tie.Need-returns
@@ -66,10 +68,10 @@ returns c =
     let taken = c .before .before in
     let made = taken .before .before .before in
     let counting = made .before .before .before .before .before .before in
-    let known = ready (start counting) in
+    let known = ready standard (start counting) in
     let is = made .dividend .ensures in
     let q = quotient-law _ _ (few-rows _ (known .given .circuit)) (distinct-points _ (known .given .circuit)) (start counting .args .d)
-    (is .is-A') (is .is-B') (is .is-C') (accepted-holds _ _ (known .rows-hold)) in
+    (is .is-A') (is .is-B') (is .is-C') (accepted-holds p _ _ (known .rows-hold)) in
     rw (taken .take-quotient .ensures, counting .rows-of .ensures, is .is-difference) q
 
 pub fill-quotient-spec : {M : Type 1} → statement M

@@ -7,6 +7,9 @@ use Rattle.circuit.proofs.Formed.{circuit-formed}
 use Rattle.assignment.proofs.Accepted.{assignment-formed}
 use Rattle.qap.specs.Refusals.{quotientVerdict}
 use Rattle.qap.proofs.Settings.{ready}
+use Rattle.circuit.proofs.Rows.{row-range}
+use Rattle.field.proofs.PrimeField.{field-prime}
+use Rattle.qap.specs.Setting.{standard}
 use Rattle.quotient.proofs.quotient_verdict.Statement.{statement}
 use Rattle.quotient.proofs.quotient_verdict.Tie as tie
 
@@ -16,13 +19,13 @@ returns c = search calls depth 16
 
 counted : tie.Need-rows-of-requires
 counted c κs =
-    let given = ready _ _ _ (is-accepted (c .before .before .ready-verdict .ensures) (c .if1 .left)) in
+    let given = ready standard _ _ _ (is-accepted (c .before .before .ready-verdict .ensures) (c .if1 .left)) in
     circuit-formed _ (given .circuit) .formed .counts
 
 one-more : tie.Need-add-length-verdict
 one-more c =
-    let given = ready _ _ _ (is-accepted (c .before .before .before .ready-verdict .ensures) (c .before .if1 .left)) in
-    omega (arith, circuit-formed _ (given .circuit) .formed .row-count .at-most, c .rows-of .ensures)
+    let given = ready standard _ _ _ (is-accepted (c .before .before .before .ready-verdict .ensures) (c .before .if1 .left)) in
+    omega (arith, row-range (circuit-formed _ (given .circuit) .formed) .at-most, c .rows-of .ensures)
 
 returns-2 : tie.Need-returns-2
 unfolding quotientVerdict
@@ -32,8 +35,8 @@ returns-2 c =
 
 rows : tie.Need-rows-verdict-requires
 rows c κs =
-    let given = ready _ _ _ (is-accepted (c .before .before .before .before .before .before .ready-verdict .ensures) (c .before .before .before .before .if1 .left)) in
-    (circuit-formed _ (given .circuit) .formed, assignment-formed _ _ (given .assignment))
+    let given = ready standard _ _ _ (is-accepted (c .before .before .before .before .before .before .ready-verdict .ensures) (c .before .before .before .before .if1 .left)) in
+    (circuit-formed _ (given .circuit) .formed, assignment-formed field-prime _ _ (given .assignment))
 
 returns-3 : tie.Need-returns-3
 unfolding quotientVerdict

@@ -6,10 +6,11 @@ use Rattle.outcome.proofs.Verdict.{is-accepted}
 use Rattle.circuit.specs.WellFormed.{Formed}
 use Rattle.circuit.proofs.Formed.{circuit-formed}
 use Rattle.qap.specs.Refusals.{columnVerdict}
+use Rattle.field.specs.Field.{p}
 use Rattle.columns.proofs.matrix.column_verdict.Statement.{statement}
 use Rattle.columns.proofs.matrix.column_verdict.Tie as tie
 
-formed : (c : tie.Else1) → Formed (c .before .before .before .before .args .circuit .now)
+formed : (c : tie.Else1) → Formed p (c .before .before .before .before .args .circuit .now)
 formed c = circuit-formed _ (is-accepted (c .before .before .circuit-verdict .ensures) (c .if1 .left)) .formed
 
 returns : tie.Need-returns

@@ -7,10 +7,12 @@ use Rattle.outcome.proofs.Verdict.{is-accepted}
 use Rattle.circuit.specs.WellFormed.{Formed}
 use Rattle.circuit.proofs.Formed.{circuit-formed}
 use Rattle.qap.specs.Refusals.{columnsVerdict}
+use Rattle.circuit.proofs.Rows.{row-range}
+use Rattle.field.specs.Field.{p}
 use Rattle.columns.proofs.matrix.columns_verdict.Statement.{statement}
 use Rattle.columns.proofs.matrix.columns_verdict.Tie as tie
 
-formed : (c : tie.Else1) → Formed (c .before .before .before .before .args .circuit .now)
+formed : (c : tie.Else1) → Formed p (c .before .before .before .before .args .circuit .now)
 formed c = circuit-formed _ (is-accepted (c .before .before .circuit-verdict .ensures) (c .if1 .left)) .formed
 
 returns : tie.Need-returns
@@ -22,7 +24,7 @@ product c =
     let counts = c .before in
     let accepted = formed (counts .before .before) in
     rw (counts .before .columns-of .ensures, counts .rows-of .ensures)
-    (omega (arith, mul-le-mul (accepted .column-count .at-most) (accepted .row-count .at-most)))
+    (omega (arith, mul-le-mul (accepted .column-count .at-most) (row-range (accepted) .at-most)))
 
 returns-2 : tie.Need-returns-2
 unfolding columnsVerdict

@@ -5,11 +5,12 @@ use native.Mathlib.Omega.{arith}
 use borrow.Author.Needs.{needs}
 use Rattle.circuit.specs.Limits.{mostRows}
 use Rattle.slices.proofs.Rooms.{Front, Back, front, back}
+use Rattle.circuit.proofs.Rows.{row-range}
 use Rattle.columns.proofs.matrix.fill_columns.Statement.{statement}
 use Rattle.columns.proofs.matrix.fill_columns.Tie as tie
 
 few : (c : tie.After-rows-of) → c .rows-of .result ≤ mostRows
-few c = let start = c .before .before .before in omega (arith, c .rows-of .ensures, start .pre .circuit .row-count .at-most)
+few c = let start = c .before .before .before in omega (arith, c .rows-of .ensures, row-range (start .pre .circuit) .at-most)
 
 z-front : (c : tie.After-room) → Front (c .before .rows-of .result + 1) (c .room .result)
 z-front c = front _ _ (omega (arith, few (c .before))) (c .room .ensures)
@@ -31,7 +32,7 @@ prepare-requires c κs =
     let start = m .before .before .before in
     let z = z-front (c .before .before .before) .size in
     let weights = weights-front (c .before .before) .size in
-    let some = start .pre .circuit .row-count .at-least in
+    let some = row-range (start .pre .circuit) .at-least in
     (omega arith, omega (arith, m .rows-of .ensures), omega (arith, few m))
 
 write-columns-requires : tie.Need-write-columns-requires

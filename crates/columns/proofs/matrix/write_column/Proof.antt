@@ -4,6 +4,7 @@ use native.Mathlib.Omega.{arith}
 use borrow.Author.Needs.{needs}
 use lib.ListN.{length}
 use Rattle.slices.proofs.Rooms.{Front, Back, front, back}
+use Rattle.circuit.proofs.Rows.{row-range}
 use Rattle.columns.proofs.ColumnLaws.{through-coefs}
 use Rattle.columns.proofs.matrix.write_column.Statement.{statement}
 use Rattle.columns.proofs.matrix.write_column.Tie as tie
@@ -11,7 +12,7 @@ use Rattle.columns.proofs.matrix.write_column.Tie as tie
 values-front : (c : tie.After-room) → Front (length (c .before .before .before .before .before .args .out .now)) (c .room .result)
 values-front c =
     let start = c .before .before .before .before .before in
-    front _ _ (omega (arith, start .pre .0 .circuit .row-count .at-most, start .pre .0 .size)) (c .room .ensures)
+    front _ _ (omega (arith, row-range (start .pre .0 .circuit) .at-most, start .pre .0 .size)) (c .room .ensures)
 
 values-back : (c : tie.After-column-values) →
     Back (length (c .before .before .before .before .before .before .before .args .out .now)) (c .before .before .room .result)

@@ -7,6 +7,7 @@ use borrow.Author.Needs.{needs}
 use borrow.Rule.Slice.PartMut.{mid-len}
 use lib.ListN.{length}
 use Rattle.circuit.specs.Limits.{mostRows, mostColumns}
+use Rattle.circuit.proofs.Rows.{row-range}
 use Rattle.columns.proofs.ColumnLaws.{WrittenUpTo, place-fits, one-more}
 use Rattle.columns.proofs.matrix.write_columns.Statement.{statement}
 use Rattle.columns.proofs.matrix.write_columns.Tie as tie
@@ -34,7 +35,7 @@ small : (c : tie.In-loop Inv-loop μ-loop) → length (c .before .loop .out) ≤
 small c =
     let start = c .before .before .before .before .before .before .before in
     let count : start .args .count ≤ mostColumns + 1 = omega (arith, start .pre .0 .few) in
-    rw (c .before .loop .inv .size) (mul-le-mul count (start .pre .0 .circuit .row-count .at-most))
+    rw (c .before .loop .inv .size) (mul-le-mul count (row-range (start .pre .0 .circuit) .at-most))
 
 write-column-requires : tie.Need-write-column-requires Inv-loop μ-loop
 write-column-requires c κs =

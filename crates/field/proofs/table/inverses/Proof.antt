@@ -20,7 +20,7 @@ inverse i x t =
     let parts = both (ltb x p) _ t in
     record { word = ltb→lt x p (parts .0); leaves-one = record { same = eqb→eq _ 1 (parts .1) } }
 
-tested : (t : List ℕ) → length t ≡ 256 → T (every inverts t) → InverseTable t
+tested : (t : List ℕ) → length t ≡ 256 → T (every inverts t) → InverseTable p t
 tested t e passes =
     record { entries = e; inverse = λ i below. inverse i (getD t i 0) (at inverts t passes i (omega arith)) }
 
