@@ -34,6 +34,9 @@ pub product-constant : (h : List ℕ) (c : ℕ) (φ : ℕ → ℕ) → pairing (
 unfolding pairing
 product-constant h c φ = rw (product-swap h (c ∷ []) φ) (simp (pairing-product, zero-add) (omega arith))
 
+pub product-one : (c : ℕ) (h : List ℕ) (φ : ℕ → ℕ) → pairing (product (c ∷ []) h) φ ≡ c * pairing h φ
+product-one c h φ = rw (product-swap (c ∷ []) h φ) (product-constant h c φ)
+
 pub product-same : {p : ℕ} (h f g : List ℕ) → f ≋⟨ p ⟩ g → product h f ≋⟨ p ⟩ product h g
 product-same h f g e = by-pairings (λ φ.
     rw (product-swap h f φ, product-swap h g φ, pairing-product f h φ, pairing-product g h φ)

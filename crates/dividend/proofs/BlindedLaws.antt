@@ -9,11 +9,13 @@ use lib.Seq.{drop-cons, getD-set-same, getD-take, take-set-le, length-take-le}
 use Rattle.algebra.specs.Polynomial.{Words}
 use Rattle.algebra.specs.Points.{Through, rowPoints, target}
 use Rattle.algebra.proofs.Congruence.{≈-trans, ≈-eq}
-use Rattle.algebra.proofs.Pairing.{pairing, by-pairings, pairing-sum, pairing-multiple}
+use Rattle.algebra.proofs.Pairing.{pairing, by-pairings, pairing-sum}
+use Rattle.algebra.proofs.Products.{product-one}
 use Rattle.algebra.proofs.Consecutive.{length-rowPoints}
 use Rattle.algebra.proofs.Target.{length-target}
-use Rattle.field.specs.Field.{p, InverseTable}
-use Rattle.field.proofs.PrimeField.{p-prime, p-positive}
+use Rattle.algebra.specs.Prime.{FieldPrime}
+use Rattle.algebra.proofs.Inverse.{positive}
+use Rattle.field.specs.Field.{InverseTable}
 use Rattle.poly.specs.AddScaled.{scaled}
 use Rattle.poly.specs.Interpolation.{interpolated}
 use Rattle.poly.proofs.Words.{words-cons, words-append, pairing-append}
@@ -31,12 +33,13 @@ module _ (m : ℕ) (out : List ℕ) (size : length out ≡ m + 1) where
       drop-cons (set out m 0) m 0 (omega (arith, length-set out m 0)) ∙
       rw (getD-set-same out m 0 0 (omega arith), drop-of-length-le (set out m 0) {i = suc m} (omega (arith, length-set out m 0)))
 
+module _ {p : ℕ} (field : FieldPrime p) (m : ℕ) (out : List ℕ) (size : length out ≡ m + 1) where
   -- the list through the values
   values-through : (few : m ≤ 256) → Words p (take m out) → (t : List ℕ) → InverseTable p t →
       Through p (rowPoints m) (λ i. getD out i 0) (interpolated p t 1 (take m out))
   values-through few words t table =
       let n : length (take m out) ≡ m = length-take-le m out (omega arith) in
-      let found = interpolated-through p-prime t (λ i l. table .inverse i (omega (arith, table .entries))) 1 (take m out)
+      let found = interpolated-through (field .prime) t (λ i l. table .inverse i (omega (arith, table .entries))) 1 (take m out)
       (omega (arith, table .entries)) words in
       record {
         size = rw n at (found .size);
@@ -47,7 +50,7 @@ module _ (m : ℕ) (out : List ℕ) (size : length out ≡ m + 1) where
       }
 
   pub blinded-law : (few : m ≤ 256) → Words p (take m out) → (t : List ℕ) → InverseTable p t → (d : ℕ) (z new : List ℕ) → z ≡ target p (rowPoints m) →
-      new ≡ scaled p d z (interpolated p t 1 (take m out) ++ 0 ∷ []) → BlindedThrough (rowPoints m) (λ i. getD out i 0) d new
+      new ≡ scaled p d z (interpolated p t 1 (take m out) ++ 0 ∷ []) → BlindedThrough p (rowPoints m) (λ i. getD out i 0) (d ∷ []) new
   unfolding pairing
   blinded-law few words t table d z new target-z e =
       let f = interpolated p t 1 (take m out) in
@@ -59,8 +62,8 @@ module _ (m : ℕ) (out : List ℕ) (size : length out ≡ m + 1) where
         plain = f;
         through = through;
         size = rw (e, length-scaled) (omega arith);
-        words = rw e (words-scaled p-positive d z (f ++ 0 ∷ []) (words-append f (0 ∷ []) (through .words) (words-cons p-positive none)));
-        same = by-pairings (λ φ. rw (e, pairing-sum, pairing-multiple, ← target-z)
+        words = rw e (words-scaled (positive (field .prime)) d z (f ++ 0 ∷ []) (words-append f (0 ∷ []) (through .words) (words-cons (positive (field .prime)) none)));
+        same = by-pairings (λ φ. rw (e, pairing-sum, product-one, ← target-z)
             (≈-trans (pairing-scaled p d z (f ++ 0 ∷ []) φ fits) (≈-eq p (rw pairing-append (omega arith)))));
       }
     where

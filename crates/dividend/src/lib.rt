@@ -1,5 +1,6 @@
 // The dividend A'B' − C' (RULES 4), kept whole: A' = A + d Z from the row sums of A, and likewise B' and C'. And its
 // quotient by Z.
+ghost use mathlib.Core.List.{[], _∷_};
 ghost use mathlib.Core.Path.{_≡_};
 ghost use Prim.Native.Nat.{_+_, _<_};
 ghost use lib.ListN.{length, drop, take, getD};
@@ -15,8 +16,8 @@ use qap::Blinders;
 
 // The first m words hold the values; the last word makes room for the multiple of the target z.
 fn blind(out: &mut [u32], m: usize, d: u32, z: &[u32])
-    requires { ⌜ TargetAndRoom m (now z) (now out) × Words p (take m (now out)) ⌝ }
-    ensures { λ _. ⌜ BlindedThrough (rowPoints m) (λ i. getD (now (out .entry)) i 0) d (now (out .exit)) ⌝ }
+    requires { ⌜ TargetAndRoom p m (now z) (now out) × Words p (take m (now out)) ⌝ }
+    ensures { λ _. ⌜ BlindedThrough p (rowPoints m) (λ i. getD (now (out .entry)) i 0) (d ∷ []) (now (out .exit)) ⌝ }
 {
     let inverses = field::table::inverses();
     out[m] = 0;
@@ -34,8 +35,8 @@ fn blinded_whole(
     z: &[u32],
     out: &mut [u32],
 )
-    requires { ⌜ DividendGiven (now circuit) (now values) m (now z) × (matrix < 3) × (length (now out) ≡ m + 1) ⌝ }
-    ensures { λ _. ⌜ BlindedWhole (now (circuit .entry)) (now (values .entry)) matrix d (now (out .exit)) ⌝ }
+    requires { ⌜ DividendGiven p (now circuit) (now values) m (now z) × (matrix < 3) × (length (now out) ≡ m + 1) ⌝ }
+    ensures { λ _. ⌜ BlindedWhole p (now (circuit .entry)) (now (values .entry)) matrix (d ∷ []) (now (out .exit)) ⌝ }
 {
     rows::whole_sums(circuit, matrix, values, &mut out[..m]);
     blind(out, m, d, z);
@@ -44,7 +45,7 @@ fn blinded_whole(
 // A'B' − C' of three lists.
 fn dividend_of(a: &[u32], b: &[u32], c: &[u32]) -> [u32; poly::PRODUCT]
     requires { ⌜ Short (now a) (now b) (now c) ⌝ }
-    ensures { λ r. ⌜ r ≡ dividendOf (now (a .entry)) (now (b .entry)) (now (c .entry)) ⌝ }
+    ensures { λ r. ⌜ r ≡ dividendOf p (now (a .entry)) (now (b .entry)) (now (c .entry)) ⌝ }
 {
     let mut difference = poly::product(a, b);
     poly::add_scaled(&mut difference, field::MINUS_ONE, c);
@@ -59,8 +60,8 @@ pub fn dividend(
     m: usize,
     z: &[u32],
 ) -> [u32; poly::PRODUCT]
-    requires { ⌜ DividendGiven (now circuit) (now values) m (now z) ⌝ }
-    ensures { λ r. ⌜ IsDividend (now (circuit .entry)) (now (values .entry)) d r ⌝ }
+    requires { ⌜ DividendGiven p (now circuit) (now values) m (now z) ⌝ }
+    ensures { λ r. ⌜ IsDividend p (now (circuit .entry)) (now (values .entry)) d r ⌝ }
 {
     let end = m + 1;
     let mut a = slices::room();
@@ -84,8 +85,8 @@ fn divide_into(work: &mut [u32], low: &[u32], out: &mut [u32])
 
 // The quotient of a dividend by the target z of 1..m, into m + 1 words.
 pub fn take_quotient(dividend: [u32; poly::PRODUCT], m: usize, z: &[u32], out: &mut [u32])
-    requires { ⌜ TargetAndRoom m (now z) (now out) ⌝ }
-    ensures { λ _. ⌜ now (out .exit) ≡ quotientOf m dividend ⌝ }
+    requires { ⌜ TargetAndRoom p m (now z) (now out) ⌝ }
+    ensures { λ _. ⌜ now (out .exit) ≡ quotientOf p m dividend ⌝ }
 {
     let mut work = dividend;
     let end = m + m + 1;

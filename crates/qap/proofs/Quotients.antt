@@ -4,7 +4,6 @@ use mathlib.Core.Path.{_≡_, refl}
 use mathlib.Core.List.{List}
 use Prim.Native.Nat.{ℕ, zero, suc, _+_, _*_, _%_, _<_, _≤_}
 use native.Mathlib.Omega.{arith}
-use native.Mathlib.Decide.{decLt}
 use lib.ListN.{length, getD}
 use lib.Dec.{lit<}
 use Rattle.algebra.specs.Polynomial.{Words, value}
@@ -15,7 +14,7 @@ use Rattle.algebra.proofs.Blinding.{blinded-exists, blinded-holds, blinded-uniq
 use Rattle.circuit.specs.Circuit.{listedRows, publics, columns}
 use Rattle.rows.specs.Rows.{RowHolds, RowsHold, wholeSum}
 use Rattle.circuit.specs.WellFormed.{Formed}
-use Rattle.rows.proofs.Holds.{unlisted-holds}
+use Rattle.rows.proofs.Holds.{every-row}
 use Rattle.qap.specs.Setting.{Setting, Sound, pointsOf}
 use Rattle.qap.specs.Polynomials.{Whole, targetOf, quotientLength, blinderA, blinderB, blinderC, IsQuotient}
 use Rattle.qap.specs.Answers.{IsAnswers, CandidateDivides}
@@ -36,18 +35,11 @@ module _ {S : Setting} (sound : Sound S) {c : List ℕ} (formed : Formed (S .p) 
     at-C = part-through whole-C
 
     -- A B − C is 0 at all points exactly where every row holds
-    -- a row that is not listed holds
-    row : RowsHold (S .p) c a → (i : ℕ) → RowHolds (S .p) c a (suc i)
-    row h i = elim (decLt i (listedRows c)) [
-      | yes below ↦ h .at-row (suc i) (omega arith) (omega arith)
-      | no above ↦ unlisted-holds formed a (suc i) (omega arith)
-    ]
-
     pub rows-to-points : RowsHold (S .p) c a → Holds (S .p) (pointsOf S c) A B C
     rows-to-points h = record {
       at-each = λ i l.
           ≈-trans (≈-product (at-A .takes i l) (at-B .takes i l))
-          (≈-trans (row h i .equal) (≈-sym (at-C .takes i l)));
+          (≈-trans (every-row formed a h i .equal) (≈-sym (at-C .takes i l)));
     }
 
     pub points-to-rows : Holds (S .p) (pointsOf S c) A B C → RowsHold (S .p) c a

@@ -1,5 +1,5 @@
--- The standard setting is sound; and what its points are: as many as rows, and a point is one of them where it is 1 to m, which is
--- the test that code makes. RULES 4, RULES 6.
+-- Row i at point i is a sound setting over every field prime, so over the calls'; and what its points are: as many as rows, and a
+-- point is one of them where it is 1 to m, which is the test that code makes. RULES 4, RULES 6.
 use mathlib.Core.Bool.{Bool, true, false}
 use mathlib.Core.List.{List}
 use mathlib.Core.Path.{_≡_, refl, sym}
@@ -9,40 +9,44 @@ use native.Mathlib.Omega.{arith}
 use lib.ListN.{length, getD}
 use Rattle.outcome.specs.Verdict.{Accepted, Within, within}
 use Rattle.outcome.proofs.Verdict.{apart, within-true, true-within}
+use Rattle.algebra.specs.Prime.{FieldPrime}
 use Rattle.algebra.specs.Points.{rowPoints, among}
 use Rattle.algebra.proofs.Consecutive.{length-rowPoints, rowPoints-at, distinct-rowPoints}
 use Rattle.algebra.proofs.Among.{among-at, among-some}
 use Rattle.field.proofs.PrimeField.{field-prime}
 use Rattle.circuit.specs.Circuit.{rows}
-use Rattle.qap.specs.Setting.{Sound, pointsOf, standard}
+use Rattle.qap.specs.Setting.{Sound, pointsOf, rowSetting, standard}
 use Rattle.qap.specs.Polynomials.{quotientLength}
 use Rattle.qap.specs.Refusals.{targetVerdict}
 use Rattle.qap.proofs.Settings.{target-size}
 
-pub sound : Sound standard
-sound = record {
-  field = field-prime;
+pub row-sound : {p : ℕ} → FieldPrime p → Sound (rowSetting p)
+row-sound field = record {
+  field = field;
   sound-points = λ m range. record {
     words = record {
       below = λ i l. let inside : i < m = omega (arith, length-rowPoints m) in
-          rw (rowPoints-at m i inside) (omega (arith, range .at-most, field-prime .above));
+          rw (rowPoints-at m i inside) (omega (arith, range .at-most, field .above));
     };
-    distinct = distinct-rowPoints m (omega (arith, range .at-most, field-prime .above));
+    distinct = distinct-rowPoints m (omega (arith, range .at-most, field .above));
     enough = le-of-eq (sym (length-rowPoints m));
     few = omega (arith, length-rowPoints m, range .at-most);
   };
 }
 
-pub count-points : (c : List ℕ) → length (pointsOf standard c) ≡ rows c
-count-points c = length-rowPoints (rows c)
+pub sound : Sound standard
+sound = row-sound field-prime
+
+pub count-points : (p : ℕ) (c : List ℕ) → length (pointsOf (rowSetting p) c) ≡ rows c
+count-points p c = length-rowPoints (rows c)
 
 -- words of the target and of the quotient: one more than there are rows
 
-pub target-words : (m size : ℕ) → Accepted (targetVerdict standard m size) → size ≡ m + 1
-target-words m size h = omega (arith, target-size standard m size h, length-rowPoints m)
+pub target-words : (p m size : ℕ) → Accepted (targetVerdict (rowSetting p) m size) → size ≡ m + 1
+target-words p m size h = omega (arith, target-size (rowSetting p) m size h, length-rowPoints m)
 
-pub quotient-words : (c : List ℕ) → quotientLength standard c ≡ rows c + 1
-quotient-words c = omega (arith, count-points c)
+pub quotient-words : (p : ℕ) (c : List ℕ) → quotientLength (rowSetting p) c ≡ rows c + 1
+quotient-words p c = omega (arith, count-points p c)
 
 -- two tests that pass alike
 alike : (a b : Bool) → (a ≡ true → b ≡ true) → (b ≡ true → a ≡ true) → a ≡ b

@@ -29,6 +29,10 @@ pub record Sound (S : Setting) : Type 0 where
 abbrev pub pointsOf : Setting → List ℕ → List ℕ
 pointsOf S c = S .points (rows c)
 
--- the setting of the calls: the prime 2013265921, and row i at point i
+-- row i at point i, over a prime
+abbrev pub rowSetting : ℕ → Setting
+rowSetting p = record { p = p; points = rowPoints }
+
+-- the setting of the calls: the prime 2013265921
 abbrev pub standard : Setting
-standard = record { p = p; points = rowPoints }
+standard = rowSetting p

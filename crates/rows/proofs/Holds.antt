@@ -2,6 +2,7 @@
 use mathlib.Core.List.{List}
 use mathlib.Core.Path.{_≡_, sym, _∙_, ap}
 use Prim.Native.Nat.{ℕ, suc, _+_, _-_, _≤_, _<_}
+use native.Mathlib.Decide.{decLt}
 use native.Mathlib.Omega.{arith}
 use borrow.Author.Tests.{eq-eqb, eqb-true}
 use lib.Dec.{lit<}
@@ -82,6 +83,13 @@ module _ (p : ℕ) (c a : List ℕ) where
   pub proper-rows : Proper (rowsVerdict p c a)
   unfolding rowsVerdict rowVerdict
   proper-rows = proper-first each (listedRows c) (λ i l. proper-require _ _ _ (lit< tt))
+
+-- so where the listed rows hold, every row does
+pub every-row : {p : ℕ} {c : List ℕ} → Formed p c → (a : List ℕ) → RowsHold p c a → (i : ℕ) → RowHolds p c a (suc i)
+every-row {c = c} formed a h i = elim (decLt i (listedRows c)) [
+  | yes below ↦ h .at-row (suc i) (omega arith) (omega arith)
+  | no above ↦ unlisted-holds formed a (suc i) (omega arith)
+]
 
 -- the verdict over the lists of sums is the one over the rows
 pub sums-rows : {p : ℕ} {c : List ℕ} → Formed p c → (a : List ℕ) →

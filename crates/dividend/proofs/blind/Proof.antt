@@ -9,6 +9,7 @@ use Rattle.algebra.proofs.Consecutive.{length-rowPoints}
 use Rattle.algebra.proofs.Target.{length-target}
 use Rattle.field.specs.Field.{p}
 use Rattle.dividend.proofs.BlindedLaws.{values-kept, last-zero, blinded-law}
+use Rattle.field.proofs.PrimeField.{field-prime}
 use Rattle.dividend.proofs.blind.Statement.{statement}
 use Rattle.dividend.proofs.blind.Tie as tie
 
@@ -52,7 +53,7 @@ returns c =
     let m = begun .args .m in
     let out = begun .args .out .now in
     let table = part .before .before .before .inverses .ensures in
-    blinded-law m out (given .room) (given .few) (begun .pre .1) _ table (begun .args .d) _ _ (given .is-target)
+    blinded-law field-prime m out (given .room) (given .few) (begun .pre .1) _ table (begun .args .d) _ _ (given .is-target)
     (added .add-scaled .ensures ∙ rw (part .interpolate .ensures, values-kept m out (given .room), last-zero m out (given .room)))
 
 pub blind-spec : {M : Type 1} → statement M

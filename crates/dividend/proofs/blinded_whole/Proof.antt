@@ -4,6 +4,7 @@ use native.Mathlib.Omega.{arith}
 use borrow.Author.Needs.{needs}
 use lib.Seq.{length-take-le}
 use Rattle.circuit.proofs.Rows.{row-range}
+use Rattle.field.proofs.PrimeField.{field-prime}
 use Rattle.dividend.proofs.WholeLaws.{whole-size, whole-words, whole-blinded}
 use Rattle.dividend.proofs.blinded_whole.Statement.{statement}
 use Rattle.dividend.proofs.blinded_whole.Tie as tie
@@ -11,8 +12,10 @@ use Rattle.dividend.proofs.blinded_whole.Tie as tie
 sums-requires : tie.Need-whole-sums-requires
 sums-requires c κs =
     let start = c .before .before .before .before .before in
-    let given = start .pre .0 in
-    (given .circuit, start .pre .1, given .assignment, length-take-le _ _ (omega arith) ∙ given .count)
+    let given = start .pre .0 in (
+      record { circuit = given .circuit; of-three = start .pre .1; size = length-take-le _ _ (omega arith) ∙ given .count },
+      given .assignment,
+    )
 
 blind-requires : tie.Need-blind-requires
 blind-requires c κs =
@@ -22,9 +25,9 @@ blind-requires c κs =
       record {
         few = omega (arith, row-range (given .circuit) .at-most, given .count);
         is-target = rw (given .count) (given .is-target);
-        room = whole-size _ _ _ _ _ _ (given .count) (start .pre .2) made;
+        room = whole-size field-prime _ _ _ _ _ _ (given .count) (start .pre .2) made;
       },
-      whole-words _ _ _ _ _ _ (given .count) (start .pre .2) made,
+      whole-words field-prime _ _ _ _ _ _ (given .count) (start .pre .2) made,
     )
 
 returns : tie.Need-returns
@@ -32,7 +35,7 @@ returns c =
     let start = c .before .before .before .before .before .before .before .before .before .before .before .before in
     let given = start .pre .0 in
     let made = c .before .before .before .before .before .before .whole-sums .ensures in
-    whole-blinded _ _ _ _ _ _ (given .count) (start .pre .2) made (c .before .before .blind .ensures)
+    whole-blinded field-prime _ _ _ _ _ _ (given .count) (start .pre .2) made (c .before .before .blind .ensures)
 
 pub blinded-whole-spec : {M : Type 1} → statement M
 blinded-whole-spec = tie.close

@@ -84,10 +84,10 @@ returns c =
 
 pub dividend-spec : {M : Type 1} → statement M
 dividend-spec = tie.close
-    (tie.spec (λ c. search needs) (λ c κs. search needs) (λ c κs. search needs) (λ c κs. search needs)
-    (λ c. search needs) (λ c. front-a (c .before .before .before) .size) requires
-    (λ c. search needs) (λ c. front-b (c .before .before .before .before .before) .size) requires-2
-    (λ c. search needs) (λ c. front-c (second (c .before .before) .before .before) .size) requires-3
+    (tie.spec (λ c. let small = few (c .before .before .before) in search needs) (λ c κs. search needs) (λ c κs. search needs) (λ c κs. search needs)
+    (λ c. front-a (c .before .before) .fits) (λ c. front-a (c .before .before .before) .size) requires
+    (λ c. front-b (c .before .before .before .before) .fits) (λ c. front-b (c .before .before .before .before .before) .size) requires-2
+    (λ c. front-c (second (c .before) .before .before) .fits) (λ c. front-c (second (c .before .before) .before .before) .size) requires-3
     (λ c. back-a (second (third (c .before))) .fits) (λ c. back-a (second (third (c .before .before))) .size)
     (λ c. back-b (third (c .before .before)) .fits) (λ c. back-b (third (c .before .before .before)) .size)
     (λ c. back-c (c .before .before .before) .fits) (λ c. back-c (c .before .before .before .before) .size)

@@ -23,7 +23,7 @@ size-work : (m : ℕ) (dividend : List ℕ) → m ≤ 256 → length dividend �
 size-work m dividend few size = length-take-le (m + m + 1) dividend (omega arith)
 
 divided : (m : ℕ) (dividend z out : List ℕ) {n : ℕ} → z ≡ target p (rowPoints m) → m ≤ 256 → length dividend ≡ 513 → n ≡ m + 1 →
-    out ≡ drop (length (take m z)) (division p (take m z) n (take (m + m + 1) dividend)) → out ≡ quotientOf m dividend
+    out ≡ drop (length (take m z)) (division p (take m z) n (take (m + m + 1) dividend)) → out ≡ quotientOf p m dividend
 unfolding quotientOf quotient
 divided m dividend z out {n} e few size count h =
     let points = length-rowPoints m in
