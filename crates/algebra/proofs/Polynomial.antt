@@ -104,3 +104,8 @@ pub value-product : (f g : List ℕ) (s : ℕ) → value (product f g) s ≡ val
 unfolding product value
 value-product [] g s = omega arith
 value-product (a ∷ f) g s = simp (value-sum, value-multiple) (omega (arith, ap (λ (x : ℕ). s * x) (value-product f g s)))
+
+-- a constant
+pub value-one : (d s : ℕ) → value (d ∷ []) s ≡ d
+unfolding value
+value-one d s = omega arith

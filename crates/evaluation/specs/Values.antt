@@ -8,49 +8,48 @@ use lib.ListN.{length}
 use Rattle.algebra.specs.Congruence.{_≈⟨_⟩_}
 use Rattle.algebra.specs.Polynomial.{value}
 use Rattle.algebra.specs.Basis.{BasisValues}
-use Rattle.field.specs.Field.{p}
 use Rattle.basis.specs.BasisAt.{BasisAt}
-use Rattle.circuit.specs.Circuit.{rows, publics, columns, points}
+use Rattle.circuit.specs.Circuit.{rows, publics, columns}
 use Rattle.circuit.specs.WellFormed.{Formed}
 use Rattle.rows.specs.Sums.{Span, WholeSums}
 use Rattle.qap.specs.declared.Blinders.{Blinders}
-use Rattle.qap.specs.Polynomials.{Part, targetOf}
-use Rattle.qap.specs.Setting.{standard}
+use Rattle.qap.specs.Polynomials.{Part, targetOf, blinderA, blinderB, blinderC}
+use Rattle.qap.specs.Setting.{rowSetting, pointsOf}
 use Rattle.evaluation.specs.declared.ThreeValues.{ThreeValues}
 
 -- the value at s of every list that is the part
-abbrev pub PartAt : List ℕ → List ℕ → ℕ → ℕ → ℕ → ℕ → ℕ → Type 0
-PartAt c a matrix from to s r = (f : List ℕ) → Part standard c a matrix from to f → r ≡ value f s % p
+abbrev pub PartAt : ℕ → List ℕ → List ℕ → ℕ → ℕ → ℕ → ℕ → ℕ → Type 0
+PartAt p c a matrix from to s r = (f : List ℕ) → Part (rowSetting p) c a matrix from to f → r ≡ value f s % p
 
--- the same over the columns after `from`, with d times the target's value
-abbrev pub BlindedAt : List ℕ → List ℕ → ℕ → ℕ → ℕ → ℕ → ℕ → Type 0
-BlindedAt c a matrix from d s r = (f : List ℕ) → Part standard c a matrix from (columns c) f → r ≡ (value f s + d * value (targetOf standard c) s) % p
+-- the same over the columns after `from`, with the blinder's value times the target's
+abbrev pub BlindedAt : ℕ → List ℕ → List ℕ → ℕ → ℕ → List ℕ → ℕ → ℕ → Type 0
+BlindedAt p c a matrix from d s r = (f : List ℕ) → Part (rowSetting p) c a matrix from (columns c) f → r ≡ (value f s + value d s * value (targetOf (rowSetting p) c) s) % p
 
 -- of A, B and C
-pub record ThreeAt (c a : List ℕ) (from : ℕ) (d : Blinders) (s : ℕ) (r : ThreeValues) : Type 0 where
-  pub first : BlindedAt c a 0 from (d .first) s (r .first)
-  pub second : BlindedAt c a 1 from (d .second) s (r .second)
-  pub third : BlindedAt c a 2 from (d .third) s (r .third)
+pub record ThreeAt (p : ℕ) (c a : List ℕ) (from : ℕ) (d : Blinders) (s : ℕ) (r : ThreeValues) : Type 0 where
+  pub first : BlindedAt p c a 0 from (blinderA d) s (r .first)
+  pub second : BlindedAt p c a 1 from (blinderB d) s (r .second)
+  pub third : BlindedAt p c a 2 from (blinderC d) s (r .third)
 
 -- what `part_value` is given: the columns and their values are there, and a basis value for each row
-pub record PartGiven (c a : List ℕ) (matrix from to : ℕ) (basis : List ℕ) : Type 0 where
+pub record PartGiven (p : ℕ) (c a : List ℕ) (matrix from to : ℕ) (basis : List ℕ) : Type 0 where
   pub circuit : Formed p c
   pub of-three : matrix < 3
   pub span : Span c a from to
   pub size : length basis ≡ rows c
 
-pub record PartValue (c a : List ℕ) (matrix from to : ℕ) (basis : List ℕ) (r : ℕ) : Type 0 where
-  pub at : (s : ℕ) → BasisValues p (points c) s basis → PartAt c a matrix from to s r
+pub record PartValue (p : ℕ) (c a : List ℕ) (matrix from to : ℕ) (basis : List ℕ) (r : ℕ) : Type 0 where
+  pub at : (s : ℕ) → BasisValues p (pointsOf (rowSetting p) c) s basis → PartAt p c a matrix from to s r
 
 -- over the private columns; z is the target's value
-pub record PrivateParts (c a : List ℕ) (d : Blinders) (z : ℕ) (basis : List ℕ) (r : ThreeValues) : Type 0 where
-  pub at : (s : ℕ) → BasisAt p (rows c) s basis z → ThreeAt c a (publics c) d s r
+pub record PrivateParts (p : ℕ) (c a : List ℕ) (d : Blinders) (z : ℕ) (basis : List ℕ) (r : ThreeValues) : Type 0 where
+  pub at : (s : ℕ) → BasisAt p (rows c) s basis z → ThreeAt p c a (publics c) d s r
 
 -- over all columns, for every circuit and assignment whose row sums the three lists are
-pub record WholeValues (sums-a sums-b sums-c : List ℕ) (d : Blinders) (z : ℕ) (basis : List ℕ) (r : ThreeValues) : Type 0 where
-  pub at : (c a : List ℕ) (s : ℕ) → Formed p c → WholeSums p c a sums-a sums-b sums-c → BasisAt p (rows c) s basis z → ThreeAt c a 0 d s r
+pub record WholeValues (p : ℕ) (sums-a sums-b sums-c : List ℕ) (d : Blinders) (z : ℕ) (basis : List ℕ) (r : ThreeValues) : Type 0 where
+  pub at : (c a : List ℕ) (s : ℕ) → Formed p c → WholeSums p c a sums-a sums-b sums-c → BasisAt p (rows c) s basis z → ThreeAt p c a 0 d s r
 
 -- the word that is (u v − t) / z
-pub record QuotientValue (three : ThreeValues) (z r : ℕ) : Type 0 where
+pub record QuotientValue (p : ℕ) (three : ThreeValues) (z r : ℕ) : Type 0 where
   pub word : r < p
   pub divides : three .first * three .second ≈⟨ p ⟩ three .third + z * r

@@ -27,8 +27,8 @@ pub fn part_value(
     to: usize,
     basis: &[u32],
 ) -> u32
-    requires { ⌜ PartGiven (now circuit) (now values) matrix from to (now basis) ⌝ }
-    ensures { λ r. ⌜ PartValue (now (circuit .entry)) (now (values .entry)) matrix from to (now (basis .entry)) r ⌝ }
+    requires { ⌜ PartGiven p (now circuit) (now values) matrix from to (now basis) ⌝ }
+    ensures { λ r. ⌜ PartValue p (now (circuit .entry)) (now (values .entry)) matrix from to (now (basis .entry)) r ⌝ }
 {
     let m = basis.len();
     let mut sums = slices::room();
@@ -45,7 +45,7 @@ pub fn private_parts(
     basis: &[u32],
 ) -> ThreeValues
     requires { ⌜ Formed p (now circuit) × AssignmentFormed p (now circuit) (now values) × (length (now basis) ≡ rows (now circuit)) ⌝ }
-    ensures { λ r. ⌜ PrivateParts (now (circuit .entry)) (now (values .entry)) d z (now (basis .entry)) r ⌝ }
+    ensures { λ r. ⌜ PrivateParts p (now (circuit .entry)) (now (values .entry)) d z (now (basis .entry)) r ⌝ }
 {
     let q = circuit::counts::publics_of(circuit);
     let n = circuit::counts::columns_of(circuit);
@@ -69,7 +69,7 @@ pub fn whole_values(
     basis: &[u32],
 ) -> ThreeValues
     requires { ⌜ (length (now «sums_a») ≡ length (now basis)) × (length (now «sums_b») ≡ length (now basis)) × (length (now «sums_c») ≡ length (now basis)) ⌝ }
-    ensures { λ r. ⌜ WholeValues (now («sums_a» .entry)) (now («sums_b» .entry)) (now («sums_c» .entry)) d z (now (basis .entry)) r ⌝ }
+    ensures { λ r. ⌜ WholeValues p (now («sums_a» .entry)) (now («sums_b» .entry)) (now («sums_c» .entry)) d z (now (basis .entry)) r ⌝ }
 {
     let whole_a = basis::dot(sums_a, basis);
     let whole_b = basis::dot(sums_b, basis);
@@ -84,7 +84,7 @@ pub fn whole_values(
 // (u v − t) / z
 pub fn quotient_value(three: ThreeValues, z: u32) -> u32
     requires { ⌜ (z ≈⟨ p ⟩ 0 → ⊥) ⌝ }
-    ensures { λ r. ⌜ QuotientValue three z r ⌝ }
+    ensures { λ r. ⌜ QuotientValue p three z r ⌝ }
 {
     field::times(
         field::minus(field::times(three.first, three.second), three.third),

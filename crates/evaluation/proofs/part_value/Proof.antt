@@ -5,6 +5,7 @@ use borrow.Author.Needs.{needs}
 use lib.ListN.{length}
 use Rattle.slices.proofs.Rooms.{Front, Back, front, back}
 use Rattle.circuit.proofs.Rows.{row-range}
+use Rattle.field.proofs.PrimeField.{field-prime}
 use Rattle.evaluation.proofs.PartValues.{part-at}
 use Rattle.evaluation.proofs.part_value.Statement.{statement}
 use Rattle.evaluation.proofs.part_value.Tie as tie
@@ -24,13 +25,13 @@ made c = back _ (lent (c .before .before)) (c .row-sums .kept .1 .1 .1 .1 .1 .0)
 requires : tie.Need-row-sums-requires
 requires c κs =
     let given = start (c .before) .pre in
-    (given .circuit, given .of-three, given .span, sym (lent (c .before) .size) ∙ given .size)
+    (record { circuit = given .circuit; of-three = given .of-three; size = sym (lent (c .before) .size) ∙ given .size }, given .span)
 
 returns : tie.Need-returns
 returns c =
     let summed = c .before .before .before in
     let given = start (summed .before .before) .pre in
-    record { at = part-at _ _ _ _ _ (given .circuit) _ _ (made summed .words ∙ summed .row-sums .ensures) (c .dot .ensures) }
+    record { at = part-at field-prime _ _ _ _ _ (given .circuit) _ _ (made summed .words ∙ summed .row-sums .ensures) (c .dot .ensures) }
 
 pub part-value-spec : {M : Type 1} → statement M
 part-value-spec = tie.close

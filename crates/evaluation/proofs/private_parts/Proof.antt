@@ -11,6 +11,7 @@ use Rattle.rows.specs.Sums.{Span}
 use Rattle.rows.proofs.Parts.{span-private}
 use Rattle.field.specs.Field.{p}
 use Rattle.evaluation.specs.Values.{PartGiven}
+use Rattle.field.proofs.PrimeField.{field-prime}
 use Rattle.evaluation.proofs.BlindedValues.{blinded-at}
 use Rattle.evaluation.proofs.private_parts.Statement.{statement}
 use Rattle.evaluation.proofs.private_parts.Tie as tie
@@ -22,7 +23,7 @@ private-span : {c a : List ℕ} {q n : ℕ} → Formed p c → AssignmentFormed 
 private-span circuit assignment first last = rw (first, last) (span-private circuit assignment)
 
 given : (c : tie.After-columns-of) (matrix : ℕ) → matrix < 3 →
-    PartGiven (start c .args .circuit .now) (start c .args .values .now) matrix (c .before .publics-of .result) (c .columns-of .result) (start c .args .basis .now)
+    PartGiven p (start c .args .circuit .now) (start c .args .values .now) matrix (c .before .publics-of .result) (c .columns-of .result) (start c .args .basis .now)
 given c matrix below =
     let pre = start c .pre in
     record {
@@ -42,9 +43,9 @@ returns c =
     let n = counted .columns-of .ensures in
     record {
       at = λ s basis. record {
-        first = blinded-at 0 (d .first) s z _ _ q n basis (third .before .before .part-value .ensures .at s (basis .values)) (c .before .before .add-scaled .ensures);
-        second = blinded-at 1 (d .second) s z _ _ q n basis (third .before .part-value2 .ensures .at s (basis .values)) (c .before .add-scaled2 .ensures);
-        third = blinded-at 2 (d .third) s z _ _ q n basis (third .part-value3 .ensures .at s (basis .values)) (c .add-scaled3 .ensures);
+        first = blinded-at field-prime 0 (d .first) s z _ _ q n basis (third .before .before .part-value .ensures .at s (basis .values)) (c .before .before .add-scaled .ensures);
+        second = blinded-at field-prime 1 (d .second) s z _ _ q n basis (third .before .part-value2 .ensures .at s (basis .values)) (c .before .add-scaled2 .ensures);
+        third = blinded-at field-prime 2 (d .third) s z _ _ q n basis (third .part-value3 .ensures .at s (basis .values)) (c .add-scaled3 .ensures);
       };
     }
 
