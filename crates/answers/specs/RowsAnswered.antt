@@ -11,15 +11,14 @@ use Rattle.qap.specs.declared.FourAnswers.{FourAnswers}
 use Rattle.qap.specs.Answers.{IsAnswers}
 use Rattle.qap.specs.Refusals.{answersVerdict}
 use Rattle.qap.specs.Calls.{noAnswers}
-use Rattle.field.specs.Field.{p}
-use Rattle.qap.specs.Setting.{standard}
+use Rattle.qap.specs.Setting.{rowSetting}
 
-pub record RowsAnswered (c a : List ℕ) (d : Blinders) (s : ℕ) (o : Outcome) (r : FourAnswers) : Type 0 where
+pub record RowsAnswered (p : ℕ) (c a : List ℕ) (d : Blinders) (s : ℕ) (o : Outcome) (r : FourAnswers) : Type 0 where
   pub number-and-place : o ≡ rowsVerdict p c a
-  pub done : Accepted (rowsVerdict p c a) → IsAnswers standard c a d s r
+  pub done : Accepted (rowsVerdict p c a) → IsAnswers (rowSetting p) c a d s r
   pub none : Refused (rowsVerdict p c a) → r ≡ noAnswers
 
 -- all checks passed, and the row sums over all columns are at hand
-pub record AnswersGiven (c a : List ℕ) (d : Blinders) (s : ℕ) (sums-a sums-b sums-c : List ℕ) : Type 0 where
-  pub accepted : Accepted (answersVerdict standard c a d s)
+pub record AnswersGiven (p : ℕ) (c a : List ℕ) (d : Blinders) (s : ℕ) (sums-a sums-b sums-c : List ℕ) : Type 0 where
+  pub accepted : Accepted (answersVerdict (rowSetting p) c a d s)
   pub sums : WholeSums p c a sums-a sums-b sums-c

@@ -1,6 +1,7 @@
 // The four answers to a query (RULES 5). The call asks nothing of its input.
 ghost use mathlib.Core.Path.{_≡_};
 ghost use Rattle.outcome.specs.Verdict.{Accepted};
+ghost use Rattle.field.specs.Field.{p};
 ghost use Rattle.qap.specs.declared.Blinders.{Blinders};
 ghost use Rattle.qap.specs.Answers.{IsAnswers};
 ghost use Rattle.qap.specs.Refusals.{readyVerdict, pointVerdict};
@@ -12,16 +13,16 @@ use qap::Blinders;
 use qap::FourAnswers;
 
 // What the answers call gives back: number and place, and the four answers, all 0 where the number is not 0.
-pub struct Answered standard {
+pub struct Answered {
     pub outcome: Outcome,
     pub numbers: FourAnswers,
 }
 
 // A refusal: no answers.
-fn none(outcome: Outcome) -> Answered standard
+fn none(outcome: Outcome) -> Answered
     ensures { λ r. ⌜ (r .outcome ≡ outcome) × (r .numbers ≡ noAnswers) ⌝ }
 {
-    Answered standard {
+    Answered {
         outcome: outcome,
         numbers: FourAnswers {
             first: 0,
@@ -42,7 +43,7 @@ fn four_answers(
     sums_b: &[u32],
     sums_c: &[u32],
 ) -> FourAnswers
-    requires { ⌜ AnswersGiven (now circuit) (now values) d s (now «sums_a») (now «sums_b») (now «sums_c») ⌝ }
+    requires { ⌜ AnswersGiven p (now circuit) (now values) d s (now «sums_a») (now «sums_b») (now «sums_c») ⌝ }
     ensures { λ r. ⌜ IsAnswers standard (now (circuit .entry)) (now (values .entry)) d s r ⌝ }
 {
     let m = sums_a.len();
@@ -60,9 +61,9 @@ fn four_answers(
 }
 
 // What the call gives once the checks before 10 have passed. The row sums over all columns serve 10 and the fourth answer.
-pub fn answer_rows(circuit: &[u32], values: &[u32], d: Blinders, s: u32) -> Answered standard
+pub fn answer_rows(circuit: &[u32], values: &[u32], d: Blinders, s: u32) -> Answered
     requires { ⌜ Accepted (readyVerdict standard (now circuit) (now values) d) × Accepted (pointVerdict standard (now circuit) s) ⌝ }
-    ensures { λ r. ⌜ RowsAnswered (now (circuit .entry)) (now (values .entry)) d s (r .outcome) (r .numbers) ⌝ }
+    ensures { λ r. ⌜ RowsAnswered p (now (circuit .entry)) (now (values .entry)) d s (r .outcome) (r .numbers) ⌝ }
 {
     let m = circuit::counts::rows_of(circuit);
     let mut sums_a = slices::room();
@@ -87,14 +88,14 @@ pub fn answer_rows(circuit: &[u32], values: &[u32], d: Blinders, s: u32) -> Answ
         &sums_b[..m],
         &sums_c[..m],
     );
-    Answered standard {
+    Answered {
         outcome: hold,
         numbers,
     }
 }
 
 // The four answers at s.
-pub fn answers(circuit: &[u32], values: &[u32], d: Blinders, s: u32) -> Answered standard
+pub fn answers(circuit: &[u32], values: &[u32], d: Blinders, s: u32) -> Answered
     ensures { λ r. ⌜ AnswersCall standard (now (circuit .entry)) (now (values .entry)) d s (r .outcome) (r .numbers) ⌝ }
 {
     let ready = refusals::ready_verdict(circuit, values, d);

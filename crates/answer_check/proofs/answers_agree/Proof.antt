@@ -28,10 +28,10 @@ abbrev start : (c : tie.After-rows-of) → tie.Start
 start c = c .before .before .before
 
 ready : (c : tie.Start) → CheckReady standard (c .args .circuit .now) (c .args .section .now) (c .args .s) (c .args .r)
-ready standard c = check-ready standard _ _ _ _ (c .pre)
+ready c = check-ready standard _ _ _ _ (c .pre)
 
 formed : (c : tie.Start) → Formed p (c .args .circuit .now)
-formed c = circuit-formed _ (ready standard c .circuit) .formed
+formed c = circuit-formed _ (ready c .circuit) .formed
 
 -- where the rows are counted, before the room is made
 abbrev counted : (c : tie.After-room) → tie.After-rows-of
@@ -65,14 +65,14 @@ public-span : {c b : List ℕ} {q : ℕ} → Formed p c → PublicFormed p c b �
 public-span circuit section count = rw count (span-public circuit section)
 
 given : (c : tie.After-basis-values) (matrix : ℕ) → matrix < 3 →
-    PartGiven (start (counted (room c)) .args .circuit .now) (start (counted (room c)) .args .section .now) matrix 0
+    PartGiven p (start (counted (room c)) .args .circuit .now) (start (counted (room c)) .args .section .now) matrix 0
     (room c .before .before .publics-of .result) (values c)
 given c matrix below =
     let begun = start (counted (room c)) in
     record {
       circuit = formed begun;
       of-three = below;
-      span = public-span (formed begun) (public-formed field-prime _ _ (ready standard begun .section)) (room c .before .before .publics-of .ensures);
+      span = public-span (formed begun) (public-formed field-prime _ _ (ready begun .section)) (room c .before .before .publics-of .ensures);
       size = sym (made c .size) ∙ counted (room c) .rows-of .ensures;
     }
 
@@ -85,8 +85,8 @@ returns c =
     let begun = start (counted (room based)) in
     let s = begun .args .s in
     let q = room based .before .before .publics-of .ensures in
-    answers-decided _ _ (ready standard begun .circuit) s _ (at based) (public-value s q (at based) (first .part-value .ensures))
-    (public-value s q (at based) (second .part-value2 .ensures)) (public-value s q (at based) (third .part-value3 .ensures)) (c .words-agree .ensures)
+    answers-decided field-prime (formed begun) _ s _ (at based) (public-value field-prime s q (at based) (first .part-value .ensures))
+    (public-value field-prime s q (at based) (second .part-value2 .ensures)) (public-value field-prime s q (at based) (third .part-value3 .ensures)) (c .words-agree .ensures)
 
 pub answers-agree-spec : {M : Type 1} → statement M
 answers-agree-spec = tie.close

@@ -19,7 +19,8 @@ use Rattle.rows.specs.Rows.{rowSums}
 use Rattle.rows.proofs.Sums.{length-sums}
 use Rattle.rows.proofs.Holds.{accepted-holds}
 use Rattle.qap.specs.Polynomials.{targetOf}
-use Rattle.qap.proofs.Settings.{AnswersReady, answers-ready, distinct-points, off-rows}
+use Rattle.qap.proofs.Standard.{sound}
+use Rattle.qap.proofs.Settings.{AnswersReady, answers-ready, off-rows}
 use Rattle.circuit.proofs.Rows.{row-range}
 use Rattle.field.proofs.PrimeField.{field-prime}
 use Rattle.qap.specs.Setting.{standard}
@@ -31,10 +32,10 @@ abbrev start : (c : tie.After-room) → tie.Start
 start c = c .before .before .before .before .before .before .before
 
 ready : (c : tie.Start) → AnswersReady standard (c .args .circuit .now) (c .args .values .now) (c .args .d) (c .args .s)
-ready standard c = answers-ready standard _ _ _ _ (c .pre .accepted)
+ready c = answers-ready standard _ _ _ _ (c .pre .accepted)
 
 formed : (c : tie.Start) → Formed p (c .args .circuit .now)
-formed c = circuit-formed _ (ready standard c .given .circuit) .formed
+formed c = circuit-formed _ (ready c .given .circuit) .formed
 
 count : (c a : List ℕ) (matrix : ℕ) {sums : List ℕ} → sums ≡ rowSums p c a matrix 0 (columns c) → length sums ≡ rows c
 count c a matrix made = ap length made ∙ length-sums p c a matrix 0 (columns c)
@@ -59,7 +60,7 @@ at c = rw (made c .words) (rw (sym (lent (room c) .size) ∙ counted (start (roo
 basis : tie.Need-basis-values-requires
 basis c κs =
     let begun = start (c .before .before) in
-    let rows = formed row-range (begun) in
+    let rows = row-range (formed begun) in
     let size = lent (c .before .before) .size in
     let all = counted begun in
     (omega (arith, rows .at-least), omega (arith, rows .at-most), c .before .before .before .inverses .ensures)
@@ -68,7 +69,7 @@ private-parts : tie.Need-private-parts-requires
 private-parts c κs =
     let based = c .before .before in
     let begun = start (room based) in
-    (formed begun, assignment-formed field-prime _ _ (ready standard begun .given .assignment), sym (made based .size) ∙ counted begun)
+    (formed begun, assignment-formed field-prime _ _ (ready begun .given .assignment), sym (made based .size) ∙ counted begun)
 
 whole-values : tie.Need-whole-values-requires
 whole-values c κs =
@@ -81,7 +82,7 @@ whole-values c κs =
     (made based .size, count circuit values 1 (sums .second) ∙ size, count circuit values 2 (sums .third) ∙ size)
 
 off : (c : tie.Start) → value (targetOf standard (c .args .circuit .now)) (c .args .s) ≈⟨ p ⟩ 0 → ⊥
-off c = off-rows _ (ready standard c .given .circuit) (c .args .s) (ready standard c .point)
+off c = off-rows sound (formed c) (c .args .s) (ready c .point)
 
 nonzero : tie.Need-quotient-value-requires
 nonzero c κs zero =
@@ -94,12 +95,12 @@ returns : tie.Need-returns
 returns c =
     let based = c .before .before .before .before .before .before in
     let begun = start (room based) in
-    let known = ready standard begun in
+    let known = ready begun in
     let s = begun .args .s in
     let mine = c .before .before .before .private-parts .ensures .at s (at based) in
     let whole = c .before .whole-values .ensures .at (begun .args .circuit .now) (begun .args .values .now) s (formed begun) (begun .pre .sums) (at based) in
     let q = c .quotient-value .ensures in
-    four-answers _ _ (distinct-points _ (known .given .circuit)) (begun .args .d) s (off begun) (accepted-holds p _ _ (known .rows-hold))
+    four-answers field-prime (formed begun) _ (begun .args .d) s (off begun) (accepted-holds p _ _ (known .rows-hold))
     mine whole (at based .target-at) (q .word) (q .divides)
 
 pub four-answers-spec : {M : Type 1} → statement M
