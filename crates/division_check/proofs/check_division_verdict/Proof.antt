@@ -7,6 +7,7 @@ use Rattle.circuit.specs.WellFormed.{Formed}
 use Rattle.circuit.proofs.Formed.{circuit-formed}
 use Rattle.qap.specs.Refusals.{checkDivisionVerdict}
 use Rattle.qap.proofs.Settings.{ready}
+use Rattle.qap.proofs.Standard.{quotient-words}
 use Rattle.circuit.proofs.Rows.{row-range}
 use Rattle.field.specs.Field.{p}
 use Rattle.qap.specs.Setting.{standard}
@@ -37,7 +38,7 @@ returns-3 : tie.Need-returns-3
 unfolding checkDivisionVerdict
 returns-3 c =
     let counted = c .before .rows-of .ensures in
-    rw (← counted) (search calls depth 16)
+    rw (quotient-words p _) (rw (← counted) (search calls depth 16))
 
 pub check-division-verdict-spec : {M : Type 1} → statement M
 check-division-verdict-spec = tie.close

@@ -8,7 +8,10 @@ use Rattle.slices.proofs.Rooms.{Front, Back, front, back}
 use Rattle.circuit.proofs.Formed.{circuit-formed}
 use Rattle.rows.proofs.Holds.{accepted-holds}
 use Rattle.qap.specs.Polynomials.{targetOf}
-use Rattle.qap.proofs.Settings.{QuotientReady, quotient-ready, few-rows, distinct-points}
+use Rattle.qap.proofs.Settings.{QuotientReady, quotient-ready}
+use Rattle.qap.proofs.Standard.{quotient-words}
+use Rattle.circuit.proofs.Rows.{row-range}
+use Rattle.field.proofs.PrimeField.{field-prime}
 use Rattle.dividend.proofs.GivenLaws.{target-made, ready-given}
 use Rattle.dividend.proofs.QuotientLaws.{quotient-law}
 use Rattle.field.specs.Field.{p}
@@ -21,13 +24,13 @@ start c = c .before .before .before .before
 
 -- what the accepted verdict says
 ready : (c : tie.Start) → QuotientReady standard (c .args .circuit .now) (c .args .values .now) (c .args .d) (length (c .args .out .now))
-ready standard c = quotient-ready standard _ _ _ _ (c .pre)
+ready c = quotient-ready standard _ _ _ _ (c .pre)
 
 counted : tie.Need-rows-of-requires
-counted c κs = circuit-formed _ (ready standard (c .before .before .before) .given .circuit) .formed .counts
+counted c κs = circuit-formed _ (ready (c .before .before .before) .given .circuit) .formed .counts
 
 few : (c : tie.After-rows-of) → c .rows-of .result ≤ 256
-few c = omega (arith, c .rows-of .ensures, few-rows _ (ready standard (start c) .given .circuit))
+few c = omega (arith, c .rows-of .ensures, row-range (circuit-formed _ (ready (start c) .given .circuit) .formed) .at-most)
 
 z-front : (c : tie.After-room) → Front (c .before .rows-of .result + 1) (c .room .result)
 z-front c = front _ 257 (omega (arith, few (c .before))) (c .room .ensures)
@@ -38,7 +41,7 @@ z-back c = back _ (z-front (c .before .before)) (c .target .kept .0)
 is-target : (c : tie.After-target) → c .target .last .0 ≡ targetOf standard (start (c .before .before .before) .args .circuit .now)
 is-target c =
     let counting = c .before .before .before in
-    target-made (start counting .args .circuit .now) (counting .rows-of .ensures) (z-front (c .before .before)) (c .target .ensures)
+    target-made field-prime (start counting .args .circuit .now) (counting .rows-of .ensures) (z-front (c .before .before)) (c .target .ensures)
 
 target-requires : tie.Need-target-requires
 target-requires c κs =
@@ -50,7 +53,7 @@ dividend-requires : tie.Need-dividend-requires
 dividend-requires c κs =
     let made = c .before .before in
     let counting = made .before .before .before in
-    rw (z-back made .words) (ready-given _ _ _ (ready standard (start counting) .given) (counting .rows-of .ensures) (is-target made))
+    rw (z-back made .words) (ready-given field-prime _ _ _ (ready (start counting) .given) (counting .rows-of .ensures) (is-target made))
 
 take-requires : tie.Need-take-quotient-requires
 take-requires c κs =
@@ -60,7 +63,7 @@ take-requires c κs =
     record {
       few = few counting;
       is-target = z-back made .words ∙ rw count (is-target made);
-      room = rw count (ready standard (start counting) .exact);
+      room = rw count (ready (start counting) .exact ∙ quotient-words p _);
     }
 
 returns : tie.Need-returns
@@ -68,9 +71,9 @@ returns c =
     let taken = c .before .before in
     let made = taken .before .before .before in
     let counting = made .before .before .before .before .before .before in
-    let known = ready standard (start counting) in
+    let known = ready (start counting) in
     let is = made .dividend .ensures in
-    let q = quotient-law _ _ (few-rows _ (known .given .circuit)) (distinct-points _ (known .given .circuit)) (start counting .args .d)
+    let q = quotient-law field-prime (circuit-formed _ (known .given .circuit) .formed) _ (start counting .args .d)
     (is .is-A') (is .is-B') (is .is-C') (accepted-holds p _ _ (known .rows-hold)) in
     rw (taken .take-quotient .ensures, counting .rows-of .ensures, is .is-difference) q
 

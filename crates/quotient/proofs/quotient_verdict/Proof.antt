@@ -6,7 +6,9 @@ use Rattle.outcome.proofs.Verdict.{is-accepted}
 use Rattle.circuit.proofs.Formed.{circuit-formed}
 use Rattle.assignment.proofs.Accepted.{assignment-formed}
 use Rattle.qap.specs.Refusals.{quotientVerdict}
+use Rattle.field.specs.Field.{p}
 use Rattle.qap.proofs.Settings.{ready}
+use Rattle.qap.proofs.Standard.{quotient-words}
 use Rattle.circuit.proofs.Rows.{row-range}
 use Rattle.field.proofs.PrimeField.{field-prime}
 use Rattle.qap.specs.Setting.{standard}
@@ -31,7 +33,7 @@ returns-2 : tie.Need-returns-2
 unfolding quotientVerdict
 returns-2 c =
     let sized = rw (c .before .before .before .rows-of .ensures) at (c .before .before .length-verdict .ensures) in
-    search calls depth 16
+    rw (quotient-words p _) (search calls depth 16)
 
 rows : tie.Need-rows-verdict-requires
 rows c κs =
@@ -42,7 +44,7 @@ returns-3 : tie.Need-returns-3
 unfolding quotientVerdict
 returns-3 c =
     let sized = rw (c .before .before .before .before .rows-of .ensures) at (c .before .before .before .length-verdict .ensures) in
-    search calls depth 16
+    rw (quotient-words p _) (search calls depth 16)
 
 pub quotient-verdict-spec : {M : Type 1} → statement M
 quotient-verdict-spec = tie.close
