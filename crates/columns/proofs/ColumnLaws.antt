@@ -11,19 +11,19 @@ use lib.ListN.{length, getD, take, drop}
 use lib.Seq.{take-all}
 use Rattle.algebra.specs.Points.{rowPoints, Through}
 use Rattle.algebra.proofs.Consecutive.{length-rowPoints}
-use Rattle.field.specs.Field.{p}
 use Rattle.circuit.specs.Circuit.{rows, columns}
-use Rattle.qap.specs.Setting.{standard}
+use Rattle.qap.specs.Setting.{rowSetting}
 use Rattle.columns.specs.Coefficients.{coefColumn}
 use Rattle.columns.proofs.CoefficientLaws.{length-coefs, coefs-at}
 use Rattle.qap.specs.Polynomials.{Column}
 use Rattle.qap.specs.Calls.{AllColumns}
+use Rattle.qap.proofs.Standard.{count-points}
 use Rattle.columns.specs.Columns.{ColumnsFrom}
 use Rattle.columns.proofs.MiddleLaws.{middle-size, middle-there, before-kept}
 
-pub through-coefs : (c : List ℕ) (matrix j : ℕ) {y f : List ℕ} → y ≡ coefColumn c matrix j →
-    Through p (rowPoints (length y)) (λ i. getD y i 0) f → Column standard c matrix j f
-through-coefs c matrix j {y} {f} e h =
+pub through-coefs : {p : ℕ} (c : List ℕ) (matrix j : ℕ) {y f : List ℕ} → y ≡ coefColumn c matrix j →
+    Through p (rowPoints (length y)) (λ i. getD y i 0) f → Column (rowSetting p) c matrix j f
+through-coefs {p} c matrix j {y} {f} e h =
     let through : Through p (rowPoints (rows c)) (λ i. getD (coefColumn c matrix j) i 0) f = rw (e, length-coefs c matrix j) at h in
     record {
       size = through .size;
@@ -36,15 +36,15 @@ pub place-fits : (m : ℕ) {t count : ℕ} → t < count → t * m + m ≤ count
 place-fits m h = omega (arith, mul-le-mul-right m h)
 
 -- the first t places of words for `count` columns are written
-pub record WrittenUpTo (c : List ℕ) (matrix first count : ℕ) (f : List ℕ) (t : ℕ) : Type 0 where
+pub record WrittenUpTo (p : ℕ) (c : List ℕ) (matrix first count : ℕ) (f : List ℕ) (t : ℕ) : Type 0 where
   pub within : t ≤ count
   pub size : length f ≡ count * rows c
-  pub column : (k : ℕ) → k < t → Column standard c matrix (first + k) (take (rows c) (drop (k * rows c) f))
+  pub column : (k : ℕ) → k < t → Column (rowSetting p) c matrix (first + k) (take (rows c) (drop (k * rows c) f))
 
-pub one-more : {c : List ℕ} {matrix first count : ℕ} {f : List ℕ} {t : ℕ} {new : List ℕ} →
-    WrittenUpTo c matrix first count f t → t < count → Column standard c matrix (first + t) new →
-    WrittenUpTo c matrix first count (putMid (t * rows c) (t * rows c + rows c - t * rows c) f new) (t + 1)
-one-more {c} {matrix} {first} {count} {f} {t} {new} h l is-column =
+pub one-more : {p : ℕ} {c : List ℕ} {matrix first count : ℕ} {f : List ℕ} {t : ℕ} {new : List ℕ} →
+    WrittenUpTo p c matrix first count f t → t < count → Column (rowSetting p) c matrix (first + t) new →
+    WrittenUpTo p c matrix first count (putMid (t * rows c) (t * rows c + rows c - t * rows c) f new) (t + 1)
+one-more {p} {c} {matrix} {first} {count} {f} {t} {new} h l is-column =
     let fits : t * rows c + rows c ≤ length f = omega (arith, place-fits (rows c) l, h .size) in
     let size : length new ≡ rows c = is-column .size ∙ length-rowPoints (rows c) in
     record {
@@ -56,14 +56,16 @@ one-more {c} {matrix} {first} {count} {f} {t} {new} h l is-column =
           (eq-or-lt-of-le (omega arith));
     }
 
-pub all-columns : {c : List ℕ} {matrix : ℕ} {f : List ℕ} → ColumnsFrom c matrix 1 (columns c) f → AllColumns standard c matrix f
-all-columns h = record {
-  size = h .size;
-  column = λ j low high. let place : 1 + (j - 1) ≡ j = omega arith in rw place at (h .column (j - 1) (omega arith));
+pub all-columns : {p : ℕ} {c : List ℕ} {matrix : ℕ} {f : List ℕ} → ColumnsFrom p c matrix 1 (columns c) f → AllColumns (rowSetting p) c matrix f
+all-columns {p} {c} h = record {
+  size = rw (count-points p c) (h .size);
+  column = λ j low high.
+      let place : 1 + (j - 1) ≡ j = omega arith in
+      rw (count-points p c) (rw place at (h .column (j - 1) (omega arith)));
 }
 
-pub one-column : {c : List ℕ} {matrix j : ℕ} {f : List ℕ} → ColumnsFrom c matrix j 1 f → Column standard c matrix j f
-one-column {c} {j = j} {f = f} h =
+pub one-column : {p : ℕ} {c : List ℕ} {matrix j : ℕ} {f : List ℕ} → ColumnsFrom p c matrix j 1 f → Column (rowSetting p) c matrix j f
+one-column {c = c} {j = j} {f = f} h =
     let same : j + 0 ≡ j = omega arith in
     let front : 0 * rows c ≡ 0 = omega arith in
     rw (same, front, take-all (rows c) f (omega (arith, h .size))) at (h .column 0 (omega arith))

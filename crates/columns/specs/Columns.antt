@@ -8,17 +8,16 @@ use Rattle.circuit.specs.Limits.{mostColumns}
 use Rattle.circuit.specs.Circuit.{rows}
 use Rattle.circuit.specs.WellFormed.{Formed}
 use Rattle.qap.specs.Polynomials.{Column}
-use Rattle.field.specs.Field.{p}
-use Rattle.qap.specs.Setting.{standard}
+use Rattle.qap.specs.Setting.{rowSetting}
 
 -- matrix 0, 1 or 2, columns that a circuit can have, and m words for each
-pub record ColumnsRoom (c : List ℕ) (matrix first count : ℕ) (f : List ℕ) : Type 0 where
+pub record ColumnsRoom (p : ℕ) (c : List ℕ) (matrix first count : ℕ) (f : List ℕ) : Type 0 where
   pub circuit : Formed p c
   pub of-three : matrix < 3
   pub few : first + count ≤ mostColumns + 1
   pub size : length f ≡ count * rows c
 
 -- place number t has column first + t
-pub record ColumnsFrom (c : List ℕ) (matrix first count : ℕ) (f : List ℕ) : Type 0 where
+pub record ColumnsFrom (p : ℕ) (c : List ℕ) (matrix first count : ℕ) (f : List ℕ) : Type 0 where
   pub size : length f ≡ count * rows c
-  pub column : (t : ℕ) → t < count → Column standard c matrix (first + t) (take (rows c) (drop (t * rows c) f))
+  pub column : (t : ℕ) → t < count → Column (rowSetting p) c matrix (first + t) (take (rows c) (drop (t * rows c) f))

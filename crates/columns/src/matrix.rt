@@ -75,9 +75,9 @@ fn write_columns(
     weights: &[u32],
     out: &mut [u32],
 )
-    requires { ⌜ ColumnsRoom (now circuit) matrix first count (now out) ⌝ }
+    requires { ⌜ ColumnsRoom p (now circuit) matrix first count (now out) ⌝ }
     requires { ⌜ Prepared p (rows (now circuit)) (now z) (now weights) ⌝ }
-    ensures { λ _. ⌜ ColumnsFrom (now (circuit .entry)) matrix first count (now (out .exit)) ⌝ }
+    ensures { λ _. ⌜ ColumnsFrom p (now (circuit .entry)) matrix first count (now (out .exit)) ⌝ }
 {
     let m = circuit::counts::rows_of(circuit);
     let mut t = 0;
@@ -98,8 +98,8 @@ fn write_columns(
 
 // The same with the target and the weights made once for all of them.
 pub fn fill_columns(circuit: &[u32], matrix: usize, first: u32, count: usize, out: &mut [u32])
-    requires { ⌜ ColumnsRoom (now circuit) matrix first count (now out) ⌝ }
-    ensures { λ _. ⌜ ColumnsFrom (now (circuit .entry)) matrix first count (now (out .exit)) ⌝ }
+    requires { ⌜ ColumnsRoom p (now circuit) matrix first count (now out) ⌝ }
+    ensures { λ _. ⌜ ColumnsFrom p (now (circuit .entry)) matrix first count (now (out .exit)) ⌝ }
 {
     let m = circuit::counts::rows_of(circuit);
     let end = m + 1;

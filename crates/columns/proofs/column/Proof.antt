@@ -7,6 +7,8 @@ use Rattle.circuit.proofs.Formed.{circuit-formed}
 use Rattle.qap.proofs.Columns.{column-asked}
 use Rattle.qap.proofs.Filling.{filled-refused, filled-done}
 use Rattle.qap.specs.Setting.{standard}
+use Rattle.field.specs.Field.{p}
+use Rattle.qap.proofs.Standard.{count-points}
 use Rattle.columns.proofs.ColumnLaws.{one-column}
 use Rattle.columns.proofs.column.Statement.{statement}
 use Rattle.columns.proofs.column.Tie as tie
@@ -23,7 +25,7 @@ accepted c κs =
       circuit = formed;
       of-three = omega (arith, asked .of-three);
       few = omega (arith, asked .among .at-most, formed .column-count .at-most);
-      size = asked .exact ∙ omega arith;
+      size = omega (arith, asked .exact, count-points p (c .before .before .before .before .before .before .args .circuit .now));
     }
 
 returns-2 : tie.Need-returns-2

@@ -7,6 +7,8 @@ use Rattle.circuit.proofs.Formed.{circuit-formed}
 use Rattle.qap.proofs.Columns.{ColumnsAsked, columns-asked}
 use Rattle.qap.proofs.Filling.{filled-refused, filled-done}
 use Rattle.qap.specs.Setting.{standard}
+use Rattle.field.specs.Field.{p}
+use Rattle.qap.proofs.Standard.{count-points}
 use Rattle.columns.proofs.ColumnLaws.{all-columns}
 use lib.ListN.{length}
 use Rattle.columns.proofs.columns.Statement.{statement}
@@ -29,7 +31,7 @@ accepted c κs =
       circuit = formed;
       of-three = omega (arith, all .of-three);
       few = omega (arith, n, formed .column-count .at-most);
-      size = all .exact ∙ rw n;
+      size = all .exact ∙ rw (count-points p _, n);
     }
 
 returns-2 : tie.Need-returns-2

@@ -6,7 +6,6 @@ use native.Mathlib.Nat.{le-antisymm}
 use borrow.Author.Needs.{needs}
 use lib.ListN.{length, length-replicate}
 use Rattle.circuit.specs.Circuit.{entries}
-use Rattle.field.specs.Field.{p}
 use Rattle.columns.specs.Coefficients.{listedColumn}
 use Rattle.columns.proofs.CoefficientLaws.{length-listed, no-entries}
 use Rattle.columns.proofs.coefficients.write_entries.Statement.{statement}
@@ -23,7 +22,7 @@ abbrev μ-loop : tie.MeasureT-loop
 μ-loop circuit start j out₀ count e₀ out e = count - e
 
 loop-holds : tie.Need-loop-holds Inv-loop μ-loop
-loop-holds c = record { within = search needs; words = c .before .before .before .pre .1 ∙ no-entries p _ _ _ }
+loop-holds c = record { within = search needs; words = c .before .before .before .pre .1 ∙ no-entries _ _ _ }
 
 write-entry-requires : tie.Need-write-entry-requires Inv-loop μ-loop
 write-entry-requires c κs =

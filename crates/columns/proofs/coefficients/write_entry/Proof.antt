@@ -5,6 +5,7 @@ use borrow.Author.Needs.{needs}
 use lib.ListN.{length}
 use Rattle.circuit.specs.Circuit.{entryAt, rowOf}
 use Prim.Native.Nat.{_-_, _<_}
+use Rattle.circuit.proofs.Rows.{row-inside}
 use Rattle.columns.proofs.CoefficientLaws.{length-listed, other-column, own-column}
 use Rattle.columns.proofs.coefficients.write_entry.Statement.{statement}
 use Rattle.columns.proofs.coefficients.write_entry.Tie as tie
@@ -16,8 +17,8 @@ returns c = let start = c .before .before in start .pre .1 ∙ other-column _ _ 
 row : (c : tie.Start) → rowOf (c .args .circuit .now) (c .args .start) (c .args .e) - 1 < length (c .args .out .now)
 row c = omega (
   arith,
-  c .pre .0 .0 .row .at-least,
-  c .pre .0 .0 .row .at-most,
+  row-inside (c .pre .0 .0) .at-least,
+  row-inside (c .pre .0 .0) .at-most,
   ap length (c .pre .1),
   length-listed (c .args .circuit .now) (c .args .start) (c .args .j) (c .args .e),
 )
@@ -34,7 +35,7 @@ slice-write-out c = row (c .before .before .before .before)
 returns-2 : tie.Need-returns-2
 returns-2 c =
     let start = c .before .before .before .before in
-    rw (start .pre .1) (own-column _ _ _ _ (start .pre .0 .0 .row) (c .before .before .if1 .left))
+    rw (start .pre .1) (own-column _ _ _ _ (row-inside (start .pre .0 .0)) (c .before .before .if1 .left))
 
 pub write-entry-spec : {M : Type 1} → statement M
 write-entry-spec =

@@ -7,6 +7,7 @@ use Rattle.circuit.specs.WellFormed.{Formed}
 use Rattle.circuit.proofs.Formed.{circuit-formed}
 use Rattle.qap.specs.Refusals.{columnVerdict}
 use Rattle.field.specs.Field.{p}
+use Rattle.qap.proofs.Standard.{count-points}
 use Rattle.columns.proofs.matrix.column_verdict.Statement.{statement}
 use Rattle.columns.proofs.matrix.column_verdict.Tie as tie
 
@@ -22,8 +23,8 @@ unfolding columnVerdict
 returns-2 c =
     let counts = c .before .before .before .before .before .before in
     let read = counts .before .before in
-    rw (← counts .before .columns-of .ensures, ← counts .rows-of .ensures)
-    (called (read .before .before .circuit-verdict .ensures) (read .if1 .left) (search chained depth 16))
+    rw (count-points p _) (rw (← counts .before .columns-of .ensures, ← counts .rows-of .ensures)
+    (called (read .before .before .circuit-verdict .ensures) (read .if1 .left) (search chained depth 16)))
 
 pub column-verdict-spec : {M : Type 1} → statement M
 column-verdict-spec = tie.close

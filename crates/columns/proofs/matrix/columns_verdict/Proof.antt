@@ -9,6 +9,7 @@ use Rattle.circuit.proofs.Formed.{circuit-formed}
 use Rattle.qap.specs.Refusals.{columnsVerdict}
 use Rattle.circuit.proofs.Rows.{row-range}
 use Rattle.field.specs.Field.{p}
+use Rattle.qap.proofs.Standard.{count-points}
 use Rattle.columns.proofs.matrix.columns_verdict.Statement.{statement}
 use Rattle.columns.proofs.matrix.columns_verdict.Tie as tie
 
@@ -31,8 +32,8 @@ unfolding columnsVerdict
 returns-2 c =
     let counts = c .before .before .before in
     let read = counts .before .before in
-    rw (← counts .before .columns-of .ensures, ← counts .rows-of .ensures)
-    (called (read .before .before .circuit-verdict .ensures) (read .if1 .left) (search chained depth 16))
+    rw (count-points p _) (rw (← counts .before .columns-of .ensures, ← counts .rows-of .ensures)
+    (called (read .before .before .circuit-verdict .ensures) (read .if1 .left) (search chained depth 16)))
 
 pub columns-verdict-spec : {M : Type 1} → statement M
 columns-verdict-spec = tie.close

@@ -8,12 +8,13 @@ use borrow.Rule.Slice.PartMut.{mid-len}
 use lib.ListN.{length}
 use Rattle.circuit.specs.Limits.{mostRows, mostColumns}
 use Rattle.circuit.proofs.Rows.{row-range}
+use Rattle.field.specs.Field.{p}
 use Rattle.columns.proofs.ColumnLaws.{WrittenUpTo, place-fits, one-more}
 use Rattle.columns.proofs.matrix.write_columns.Statement.{statement}
 use Rattle.columns.proofs.matrix.write_columns.Tie as tie
 
 abbrev Inv-loop : tie.InvT-loop
-Inv-loop circuit matrix first count z weights out₀ m t₀ out t = WrittenUpTo circuit matrix first count out t
+Inv-loop circuit matrix first count z weights out₀ m t₀ out t = WrittenUpTo p circuit matrix first count out t
 
 abbrev μ-loop : tie.MeasureT-loop
 μ-loop circuit matrix first count z weights out₀ m t₀ out t = count - t
