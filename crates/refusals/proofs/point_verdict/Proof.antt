@@ -1,5 +1,4 @@
 -- The checks in their order, with the circuit's count of rows.
-use native.Mathlib.Omega.{arith}
 use borrow.Author.Needs.{needs}
 use Rattle.outcome.proofs.Chain.{chained}
 use Rattle.qap.specs.Refusals.{pointVerdict}
