@@ -145,14 +145,16 @@ returns-3 c =
     let counting = c .before .before .before .before .before .before in
     let now = counting .before .before .before in
     let here = called-refused _ (checked (c .before .before)) (c .if3 .taken) ∙ andThen-assoc _ _ _ in
-    fault (now .before .sections .inv) (one-of-three now) (c .if3 .taken) (called (counting .before .before .require .ensures) (counting .if2 .left) here)
+    fault (now .before .sections .inv) (one-of-three now) (c .if3 .taken)
+    (called (counting .before .before .require .ensures) (counting .if2 .left) here)
 
 returns-4 : tie.Need-returns-4 Inv-loop μ-loop Inv-sections μ-sections
 returns-4 c =
     let loop = c .before .before .before .before in
     let now = loop .before .before .before .before .before .before .before .before .before .before in
     fault (now .before .sections .inv) (one-of-three now) (c .if4 .taken)
-    (entry-fault (listed (loop .before)) (loop .loop .inv) (c .before .before .before .loop-test .taken) (c .if4 .taken) (c .before .before .entry-verdict .ensures))
+    (entry-fault (listed (loop .before)) (loop .loop .inv) (c .before .before .before .loop-test .taken) (c .if4 .taken)
+    (c .before .before .entry-verdict .ensures))
 
 -- where the count was read: it is a word, and stands at a small index
 record Small (c : List ℕ) (start : ℕ) : Type 0 where
