@@ -7,3 +7,4 @@ pub mod Entries
 pub mod Coefficients
 pub mod Prefix
 pub mod Rows
+pub mod Places

@@ -53,14 +53,14 @@ pub trailer-six : (t : List ℕ) → Accepted (trailerVerdict t) → length t �
 unfolding trailerVerdict
 trailer-six t h = eqb-true _ _ (taken _ _ _ (lit< tt) h .0)
 
-pub record Ready standard (w : List ℕ) : Type 0 where
+pub record Ready (w : List ℕ) : Type 0 where
   pub circuit : Accepted (circuitVerdict p (leading w))
   pub assignment : Accepted (assignmentVerdict p (leading w) (assignmentOf w))
   pub remains : length (trailer w) ≡ 6
   pub blinders : Accepted (wordsVerdict p 12 0 (blinderWords (blindersOf w)))
   pub point : Accepted (pointVerdict standard (leading w) (pointOf w))
 
-pub file-ready : (w : List ℕ) → Accepted (fileVerdict w) → Ready standard w
+pub file-ready : (w : List ℕ) → Accepted (fileVerdict w) → Ready w
 unfolding fileVerdict
 file-ready w h =
     let begun = accepted-parts h in
@@ -80,7 +80,7 @@ pub file-answers-ready : (w : List ℕ) → Accepted (fileVerdict w) →
 unfolding readyVerdict
 file-answers-ready w h =
     let ready = file-ready w h in
-    accepted-both (ready standard .circuit) (accepted-both (ready standard .assignment) (ready standard .blinders))
+    accepted-both (ready .circuit) (accepted-both (ready .assignment) (ready .blinders))
 
 -- with 10 last: the call for answers accepts what the file holds
 pub job-answers : (w : List ℕ) → Accepted (jobVerdict w) →
@@ -118,10 +118,10 @@ unfolding fileVerdict
 ends w h =
     let ready = file-ready w h in
     let in-words = ends-within (prefix-formed w (accepted-parts h .0)) in
-    let remains = simp length-drop at (ready standard .remains) in
+    let remains = simp length-drop at (ready .remains) in
     record {
       circuit = length-take-le (ending w) w in-words;
-      assignment = assignment-formed field-prime _ _ (ready standard .assignment) .size;
+      assignment = assignment-formed field-prime _ _ (ready .assignment) .size;
       within = omega arith;
       whole = omega arith;
     }

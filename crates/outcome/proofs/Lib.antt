@@ -1,3 +1,4 @@
 pub mod Verdict
 pub mod Chain
 pub mod Scan
+pub mod Near

@@ -24,6 +24,8 @@ use Rattle.job_file.proofs.FileLaws.{file-ready, file-answers-ready}
 use Rattle.circuit.proofs.Rows.{row-range}
 use Rattle.field.specs.Field.{p}
 use Rattle.qap.specs.Setting.{standard}
+use Rattle.algebra.proofs.Consecutive.{length-rowPoints}
+use Rattle.qap.proofs.Standard.{quotient-words}
 use Rattle.printed_job.specs.Lines.{fiveLines, FiveOf, Reports}
 use Rattle.printed_job.specs.TextUpTo.{TextUpTo}
 
@@ -60,11 +62,11 @@ module _ (c a : List ℕ) (d : Blinders) (s : ℕ) (h : Accepted (answersVerdict
 
   pub target-accepted : {size : ℕ} → size ≡ rows c + 1 → Accepted (targetVerdict standard (rows c) size)
   unfolding targetVerdict
-  target-accepted e = accepted-both (accepted-require _ _ (within-true (row-range (answers-formed)))) (exact e)
+  target-accepted e = accepted-both (accepted-require _ _ (within-true (row-range answers-formed))) (rw (length-rowPoints (rows c)) (exact e))
 
   pub quotient-accepted : {size : ℕ} → size ≡ rows c + 1 → Accepted (quotientVerdict standard c a d size)
   unfolding quotientVerdict answersVerdict
-  quotient-accepted e = accepted-both (accepted-parts h .0) (accepted-both (exact e) (answers-ready standard c a d s h .rows-hold))
+  quotient-accepted e = accepted-both (accepted-parts h .0) (accepted-both (rw (quotient-words p c) (exact e)) (answers-ready standard c a d s h .rows-hold))
 
   -- the five lines of what the calls gave
   pub five-written : {r : FourAnswers} {m : ℕ} {z z' f f' b before bytes : List ℕ} {end : ℕ} {o o' check : Outcome} →

@@ -12,11 +12,13 @@ use Rattle.text.proofs.TextLaws.{same-bytes}
 use Rattle.qap.specs.declared.Blinders.{Blinders}
 use Rattle.qap.specs.Calls.{AnswersCall}
 use Rattle.qap.specs.Refusals.{answersVerdict}
+use Rattle.circuit.proofs.Formed.{circuit-formed}
 use Rattle.qap.proofs.Checks.{tablet-accepts}
 use Rattle.qap.proofs.Determined.{answers-unique, judged-once}
 use Rattle.qap.proofs.PlaceZero.{proper-answers}
 use Rattle.qap.proofs.Quotients.{quotient-unique}
-use Rattle.qap.proofs.Settings.{answers-ready, distinct-points}
+use Rattle.qap.proofs.Settings.{answers-ready}
+use Rattle.qap.proofs.Standard.{sound}
 use Rattle.job_file.specs.File.{jobVerdict}
 use Rattle.job_file.proofs.FileLaws.{job-answers}
 use Rattle.qap.specs.Setting.{standard}
@@ -26,9 +28,9 @@ use Rattle.printed_job.specs.TextUpTo.{TextUpTo, blank}
 module _ {c a : List ℕ} {d : Blinders} {s : ℕ} (h : Accepted (answersVerdict standard c a d s)) where
   five-determined : {t t' : List ℕ} → FiveOf c a d s t → FiveOf c a d s t' → t ≡ t'
   five-determined {t} {t'} x y =
-      let distinct = distinct-points c (answers-ready standard c a d s h .given .circuit) in
-      let quotient = quotient-unique c a distinct d (x .is-quotient) (y .is-quotient) in
-      let answers = answers-unique c a distinct d s (x .are-answers) (y .are-answers) in
+      let formed = circuit-formed c (answers-ready standard c a d s h .given .circuit) .formed in
+      let quotient = quotient-unique sound formed a d (x .is-quotient) (y .is-quotient) in
+      let answers = answers-unique sound formed a d s (x .are-answers) (y .are-answers) in
       let check : x .check ≡ y .check = judged-once (x .is-check) (rw answers (y .is-check)) in
       x .lines ∙ rw (quotient, answers, check) (sym (y .lines))
 
@@ -36,11 +38,11 @@ module _ {c a : List ℕ} {d : Blinders} {s : ℕ} (h : Accepted (answersVerdict
   five-check : {t : List ℕ} (x : FiveOf c a d s t) → x .check .number ≡ 0
   five-check x =
       let call : AnswersCall standard c a d s fine (x .answers) = record {
-        number-and-place = sym (proper-answers c a d s .fine-if-accepted h);
+        number-and-place = sym (proper-answers sound c a d s .fine-if-accepted h);
         done = λ _. x .are-answers;
         none = λ r. absurd (not-both h r);
       } in
-      ap (λ (o : Outcome). o .number) (tablet-accepts c a d s (x .answers) call (x .is-check))
+      ap (λ (o : Outcome). o .number) (tablet-accepts sound c a d s (x .answers) call (x .is-check))
 
 -- any two texts that the program may print for the same bytes are equal
 pub printed-determined : (b : List ℕ) {t t' : List ℕ} → Prints b t → Prints b t' → t ≡ t'

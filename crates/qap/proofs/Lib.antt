@@ -15,3 +15,4 @@ pub mod PlaceZero
 pub mod Demand3Calls
 pub mod Standard
 pub mod Promises
+pub mod Places

@@ -7,7 +7,8 @@ use Rattle.outcome.specs.Verdict.{Accepted}
 use Rattle.outcome.proofs.Verdict.{accepted-parts}
 use Rattle.packing.specs.Packing.{unpacked, packed}
 use Rattle.qap.specs.Refusals.{answerWords}
-use Rattle.qap.proofs.Settings.{distinct-points}
+use Rattle.circuit.proofs.Formed.{circuit-formed}
+use Rattle.qap.proofs.Standard.{sound}
 use Rattle.qap.proofs.Determined.{filled-once, judged-once, answers-unique}
 use Rattle.job_file.specs.File.{fileVerdict}
 use Rattle.job_file.proofs.FileLaws.{file-ready}
@@ -19,7 +20,7 @@ file-accepted job size h = accepted-parts (accepted-parts h .1) .0
 
 bytes-once : (w : List ℕ) → Accepted (fileVerdict w) → (f g : List ℕ) → JobBytes w f → JobBytes w g → f ≡ g
 bytes-once w h f g s t =
-    let same = answers-unique _ _ (distinct-points _ (file-ready w h .circuit)) _ _ (s .are-answers) (t .are-answers) in
+    let same = answers-unique sound (circuit-formed _ (file-ready w h .circuit) .formed) _ _ _ (s .are-answers) (t .are-answers) in
     s .are-bytes ∙ ap (λ r. packed (answerWords r)) same ∙ sym (t .are-bytes)
 
 pub answers-export-determined : (job : List ℕ) {old new new' : List ℕ} {r r' : ℕ} →

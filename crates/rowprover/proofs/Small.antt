@@ -14,8 +14,11 @@ use Rattle.packing.specs.Packing.{unpacked, jobWords}
 use Rattle.packing.proofs.PackingLaws.{length-unpacked}
 use Rattle.qap.specs.Calls.{Judged}
 use Rattle.job_file.specs.File.{sizeVerdict}
-use Rattle.job_file.proofs.FileLaws.{size-words, file-ready}
-use Rattle.job_file.proofs.Places.{Near, near-then, near-next, near-length, near-rows, near-size, near-file, near-require, near-check-answers}
+use Rattle.job_file.proofs.FileLaws.{size-words}
+use Rattle.outcome.proofs.Near.{Near, near-then, near-next, near-require}
+use Rattle.qap.specs.Setting.{standard}
+use Rattle.qap.proofs.Places.{near-length, near-check-answers}
+use Rattle.job_file.proofs.Places.{near-size, near-file, near-held}
 use Rattle.rowprover.specs.Exports.{answersBytes, wordsThenSize, answersBytesVerdict, sizesVerdict, checkBytesVerdict}
 use Rattle.rowprover.proofs.Sizes.{sizes-accepted}
 
@@ -29,7 +32,7 @@ unfolding wordsThenSize
 near-words w size few =
     let enough = lit≤ tt in
     near-then (near-file enough w few)
-    (λ h. near-next (near-length enough size answersBytes (lit≤ tt)) (near-rows enough _ _ (file-ready w h .circuit)))
+    (λ h. near-next (near-length size answersBytes (lit≤ tt)) (near-held enough w few h))
 
 pub near-answers : (job : List ℕ) (size : ℕ) → Near jobWords (answersBytesVerdict job size)
 unfolding answersBytesVerdict
@@ -45,7 +48,7 @@ pub near-check : (circuit section query : List ℕ) → Near jobWords (checkByte
 unfolding checkBytesVerdict
 near-check circuit section query = near-then (near-sizes _ _ _) (λ h.
     let sized = sizes-accepted _ _ _ h in
-    near-check-answers (lit≤ tt) _ _ _ _ (few-words circuit (sized .circuit-size)) (few-words section (sized .section-size)))
+    near-check-answers standard _ _ _ _ (few-words circuit (sized .circuit-size)) (few-words section (sized .section-size)) (lit≤ tt))
 
 -- a check's outcome is its verdict, or at place 0
 pub near-judged : {bound : ℕ} {verdict o : Outcome} {Equal : Type 0} → Near bound verdict → Judged verdict Equal o → Near bound o

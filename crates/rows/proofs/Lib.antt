@@ -1,3 +1,4 @@
 pub mod Sums
 pub mod Parts
 pub mod Holds
+pub mod Places
