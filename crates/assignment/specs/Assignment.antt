@@ -44,12 +44,8 @@ publicVerdict c a =
     andThen valuesVerdict a
 
 -- what a call says of both lists: the circuit comes first
-
 unfoldable pub circuitThenAssignment : List ℕ → List ℕ → Outcome
 circuitThenAssignment c a = circuitVerdict c andThen assignmentVerdict c a
-
-unfoldable pub circuitThenPublic : List ℕ → List ℕ → Outcome
-circuitThenPublic c a = circuitVerdict c andThen publicVerdict c a
 
 -- the public section handed out: the first q + 1 words, or none where circuit or assignment would be refused
 unfoldable pub publicSection : List ℕ → List ℕ → List ℕ

@@ -3,8 +3,10 @@ ghost use mathlib.Core.Path.{_≡_};
 ghost use Prim.Native.Nat.{_≤_, _<_};
 ghost use lib.ListN.{length};
 ghost use Rattle.circuit.specs.WellFormed.{Formed};
-ghost use Rattle.assignment.specs.Assignment.{wordsVerdict, valuesVerdict, assignmentVerdict, publicVerdict, circuitThenAssignment, circuitThenPublic, publicSection};
+ghost use Rattle.assignment.specs.Assignment.{wordsVerdict, valuesVerdict, assignmentVerdict, publicVerdict, circuitThenAssignment, publicSection};
 use outcome::Outcome;
+use outcome::fine;
+use outcome::require;
 
 // Every word below p, or the number at the first that is not; the list's indices begin with `from`.
 pub fn words_verdict(words: &[u32], number: u32, from: usize) -> Outcome
@@ -13,110 +15,71 @@ pub fn words_verdict(words: &[u32], number: u32, from: usize) -> Outcome
 {
     let mut i = 0;
     while i < words.len() {
-        if field::MINUS_ONE < words[i] {
-            return Outcome {
-                number: number,
-                place: from + i,
-            };
+        let found = require(words[i] <= field::MINUS_ONE, number, from + i);
+        if found.number != 0 {
+            return found;
         }
         i += 1;
     }
-    Outcome {
-        number: 0,
-        place: 0,
-    }
+    fine()
 }
 
-fn values_verdict(words: &[u32]) -> Outcome
-    requires { ⌜ 2 ≤ length (now words) ⌝ }
-    ensures { λ r. ⌜ r ≡ valuesVerdict (now (words .entry)) ⌝ }
+// 7: the first value is 1, and every word a field word.
+fn values_verdict(values: &[u32]) -> Outcome
+    requires { ⌜ 2 ≤ length (now values) ⌝ }
+    ensures { λ r. ⌜ r ≡ valuesVerdict (now (values .entry)) ⌝ }
 {
-    if words[1] != 1 {
-        return Outcome {
-            number: 7,
-            place: 1,
-        };
-    }
-    words_verdict(words, 7, 0)
+    require(values[1] == 1, 7, 1).and_then(words_verdict(values, 7, 0))
 }
 
-// For a caller that has judged the circuit already. Its words may go on after the circuit.
-pub fn assignment_words_verdict(circuit: &[u32], words: &[u32]) -> Outcome
+// 6, then 7, for a caller that has judged the circuit already. Its words may go on after the circuit.
+pub fn assignment_words_verdict(circuit: &[u32], values: &[u32]) -> Outcome
     requires { ⌜ Formed (now circuit) ⌝ }
-    ensures { λ r. ⌜ r ≡ assignmentVerdict (now (circuit .entry)) (now (words .entry)) ⌝ }
+    ensures { λ r. ⌜ r ≡ assignmentVerdict (now (circuit .entry)) (now (values .entry)) ⌝ }
 {
     let q = circuit::counts::publics_of(circuit);
     let n = circuit::counts::columns_of(circuit);
-    if words.len() != n + 2 {
-        return Outcome {
-            number: 6,
-            place: 0,
-        };
+    let sized = require(values.len() == n + 2, 6, 0);
+    if sized.number != 0 {
+        return sized;
     }
-    if words[0] as usize != q {
-        return Outcome {
-            number: 6,
-            place: 0,
-        };
-    }
-    if words[q + 1] as usize != n - q {
-        return Outcome {
-            number: 6,
-            place: 0,
-        };
-    }
-    values_verdict(words)
+    require(values[0] as usize == q, 6, 0)
+        .and_then(require(values[q + 1] as usize == n - q, 6, 0))
+        .and_then(values_verdict(values))
 }
 
 // The same for a public section alone.
-pub fn public_words_verdict(circuit: &[u32], words: &[u32]) -> Outcome
+pub fn public_words_verdict(circuit: &[u32], values: &[u32]) -> Outcome
     requires { ⌜ Formed (now circuit) ⌝ }
-    ensures { λ r. ⌜ r ≡ publicVerdict (now (circuit .entry)) (now (words .entry)) ⌝ }
+    ensures { λ r. ⌜ r ≡ publicVerdict (now (circuit .entry)) (now (values .entry)) ⌝ }
 {
     let q = circuit::counts::publics_of(circuit);
-    if words.len() != q + 1 {
-        return Outcome {
-            number: 6,
-            place: 0,
-        };
+    let sized = require(values.len() == q + 1, 6, 0);
+    if sized.number != 0 {
+        return sized;
     }
-    if words[0] as usize != q {
-        return Outcome {
-            number: 6,
-            place: 0,
-        };
-    }
-    values_verdict(words)
+    require(values[0] as usize == q, 6, 0).and_then(values_verdict(values))
 }
 
-pub fn assignment_verdict(circuit: &[u32], words: &[u32]) -> Outcome
-    ensures { λ r. ⌜ r ≡ circuitThenAssignment (now (circuit .entry)) (now (words .entry)) ⌝ }
+// The circuit, then the assignment.
+pub fn assignment_verdict(circuit: &[u32], values: &[u32]) -> Outcome
+    ensures { λ r. ⌜ r ≡ circuitThenAssignment (now (circuit .entry)) (now (values .entry)) ⌝ }
 {
-    let found = reader::circuit_verdict(circuit);
-    if found.number != 0 {
-        return found;
+    let read = reader::circuit_verdict(circuit);
+    if read.number != 0 {
+        return read;
     }
-    assignment_words_verdict(circuit, words)
-}
-
-pub fn public_verdict(circuit: &[u32], words: &[u32]) -> Outcome
-    ensures { λ r. ⌜ r ≡ circuitThenPublic (now (circuit .entry)) (now (words .entry)) ⌝ }
-{
-    let found = reader::circuit_verdict(circuit);
-    if found.number != 0 {
-        return found;
-    }
-    public_words_verdict(circuit, words)
+    assignment_words_verdict(circuit, values)
 }
 
 // The part of the lent assignment that holds the public section, or an empty part.
-pub fn public_section<'a>(circuit: &[u32], words: &'a [u32]) -> &'a [u32]
-    ensures { λ r. ⌜ now r ≡ publicSection (now (circuit .entry)) (now (words .entry)) ⌝ }
+pub fn public_section<'a>(circuit: &[u32], values: &'a [u32]) -> &'a [u32]
+    ensures { λ r. ⌜ now r ≡ publicSection (now (circuit .entry)) (now (values .entry)) ⌝ }
 {
-    let found = assignment_verdict(circuit, words);
+    let found = assignment_verdict(circuit, values);
     if found.number != 0 {
-        return &words[..0];
+        return &values[..0];
     }
     let end = circuit::counts::publics_of(circuit) + 1;
-    &words[..end]
+    &values[..end]
 }

@@ -11,6 +11,7 @@ use borrow.Author.Tests.{eq-eqb}
 use lib.Dec.{eqb}
 use Rattle.outcome.specs.Verdict.{within}
 use Rattle.outcome.proofs.Verdict.{apart, within-true}
+use Rattle.circuit.specs.Limits.{mostColumns}
 use Rattle.circuit.specs.Circuit.{rows, columns, entries, rowOf, columnOf, valueOf, section, isAt, listed, coef}
 use Rattle.circuit.specs.WellFormed.{SectionFormed, Formed}
 use Rattle.algebra.specs.Combination.{total}
@@ -29,7 +30,7 @@ module _ {c : List ℕ} {s : ℕ} (formed : SectionFormed c s) where
       go true here none = let place = at-place c s i j k here in absurd (h k (omega arith) (place .0) (place .1))
       go false here none = none
 
-  listed-value : columns c ≤ 256 → (i j e k : ℕ) → e < k → k ≤ entries c s → isAt c s i j e ≡ true → listed c s i j k ≡ valueOf c s e
+  listed-value : columns c ≤ mostColumns → (i j e k : ℕ) → e < k → k ≤ entries c s → isAt c s i j e ≡ true → listed c s i j k ≡ valueOf c s e
   unfolding listed
   listed-value few i j e zero h l there = absurd (omega arith)
   listed-value few i j e (suc k) h l there = go (isAt c s i j k) refl (listed-value few i j e k)
@@ -46,7 +47,7 @@ module _ {c : List ℕ} {s : ℕ} (formed : SectionFormed c s) where
           (eq-or-lt-of-le (omega arith))
 
   -- a sum over the entries, each with a factor by its row and column
-  entries-sum : columns c ≤ 256 → (g : ℕ → ℕ → ℕ) →
+  entries-sum : columns c ≤ mostColumns → (g : ℕ → ℕ → ℕ) →
       total (λ e. g (rowOf c s e) (columnOf c s e) * valueOf c s e) (entries c s)
       ≡ total (λ i. total (λ j. g (suc i) (suc j) * listed c s (suc i) (suc j) (entries c s)) (columns c)) (rows c)
   entries-sum few g = sym

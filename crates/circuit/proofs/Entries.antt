@@ -11,6 +11,7 @@ use borrow.Author.Tests.{eqb-true, ne-eqb, ltb-true}
 use lib.Dec.{eqb, ltb}
 use Rattle.outcome.specs.Verdict.{within}
 use Rattle.outcome.proofs.Verdict.{apart, both-true}
+use Rattle.circuit.specs.Limits.{mostColumns}
 use Rattle.circuit.specs.Circuit.{columns, entries, rowOf, columnOf, valueOf, isAt, listed}
 use Rattle.circuit.specs.Reader.{above}
 use Rattle.circuit.specs.WellFormed.{SectionFormed}
@@ -19,9 +20,9 @@ use Rattle.algebra.proofs.Combination.{total-times}
 use Rattle.circuit.specs.Totals.{only}
 use Rattle.circuit.proofs.Totals.{total-same, total-zero, total-swap, total-pick}
 
--- one number for a row and a column: columns go up to 256
+-- one number for a row and a column: columns are at most `mostColumns`
 abbrev rank : List ℕ → ℕ → ℕ → ℕ
-rank c s e = 257 * rowOf c s e + columnOf c s e
+rank c s e = (mostColumns + 1) * rowOf c s e + columnOf c s e
 
 above-means : (r k r0 k0 : ℕ) → above r k r0 k0 ≡ true → (r0 < r) ⊎ ((r0 ≡ r) × (k0 < k))
 above-means r k r0 k0 h = go (ltb r0 r) refl (eqb r0 r) refl (ltb k0 k) refl h
@@ -36,7 +37,7 @@ above-means r k r0 k0 h = go (ltb r0 r) refl (eqb r0 r) refl (ltb k0 k) refl h
 pub at-place : (c : List ℕ) (s i j e : ℕ) → isAt c s i j e ≡ true → (rowOf c s e ≡ i) × (columnOf c s e ≡ j)
 at-place c s i j e h = let parts = both-true (eqb (rowOf c s e) i) h in (eqb-true _ _ (parts .0), eqb-true _ _ (parts .1))
 
-module _ {c : List ℕ} (few : columns c ≤ 256) {s : ℕ} (formed : SectionFormed c s) where
+module _ {c : List ℕ} (few : columns c ≤ mostColumns) {s : ℕ} (formed : SectionFormed c s) where
   step : (e : ℕ) → suc e < entries c s → rank c s e < rank c s (suc e)
   step e l =
       let here = formed .entry (suc e) l in

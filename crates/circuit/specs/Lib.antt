@@ -1,3 +1,4 @@
+pub mod Limits
 pub mod Circuit
 pub mod Reader
 pub mod WellFormed

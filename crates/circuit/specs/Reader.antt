@@ -8,6 +8,7 @@ use lib.ListN.{length}
 use Rattle.outcome.specs.declared.Outcome.{Outcome}
 use Rattle.outcome.specs.Verdict.{require, within, _andThen_, firstFault}
 use Rattle.field.specs.Field.{p}
+use Rattle.circuit.specs.Limits.{mostRows, mostColumns, mostEntries}
 use Rattle.circuit.specs.Circuit.{rows, publics, columns, entries, entryAt, rowOf, columnOf, valueOf, section, sectionEnd, ending}
 
 -- a row and a column stand above others: by row, then column
@@ -35,15 +36,15 @@ entryVerdict c s e =
 unfoldable pub sectionVerdict : List ℕ → ℕ → Outcome
 sectionVerdict c s =
     require (ltb s (length c)) 1 (length c)
-    andThen require (leb (entries c s) 1024) 2 s
+    andThen require (leb (entries c s) mostEntries) 2 s
     andThen require (leb (sectionEnd c s) (length c)) 1 (length c)
     andThen firstFault (entryVerdict c s) (entries c s)
 
 -- m, n, q in that order; they stand as m, q, n
 unfoldable pub countsVerdict : ℕ → ℕ → ℕ → Outcome
 countsVerdict m q n =
-    require (within 1 m 256) 2 0
-    andThen require (within 1 n 256) 2 2
+    require (within 1 m mostRows) 2 0
+    andThen require (within 1 n mostColumns) 2 2
     andThen require (within 1 q n) 2 1
 
 -- words that begin with a circuit and may go on: fewer than 3 words, the counts, then sections A, B, C

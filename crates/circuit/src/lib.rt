@@ -1,2 +1,3 @@
-// Circuits: what their words mean (RULES 2), and their counts; crates entry, reader and column read them.
+// Circuits: what their words mean (RULES 2), their limits and their counts; crate reader judges them.
 pub mod counts;
+pub mod limits;

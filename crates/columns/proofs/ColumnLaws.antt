@@ -18,7 +18,7 @@ use Rattle.columns.proofs.CoefficientLaws.{length-coefs, coefs-at}
 use Rattle.qap.specs.Polynomials.{Column}
 use Rattle.qap.specs.Calls.{AllColumns}
 use Rattle.columns.specs.Columns.{ColumnsFrom}
-use Rattle.columns.proofs.PartLaws.{middle-size, middle-there, before-kept}
+use Rattle.columns.proofs.MiddleLaws.{middle-size, middle-there, before-kept}
 
 pub through-coefs : (c : List ℕ) (matrix j : ℕ) {y f : List ℕ} → y ≡ coefColumn c matrix j →
     Through p (consecutive 1 (length y)) (λ i. getD y i 0) f → Column c matrix j f
@@ -35,14 +35,14 @@ pub place-fits : (m : ℕ) {t count : ℕ} → t < count → t * m + m ≤ count
 place-fits m h = omega (arith, mul-le-mul-right m h)
 
 -- the first t places of words for `count` columns are written
-pub record Written (c : List ℕ) (matrix first count : ℕ) (f : List ℕ) (t : ℕ) : Type 0 where
+pub record WrittenUpTo (c : List ℕ) (matrix first count : ℕ) (f : List ℕ) (t : ℕ) : Type 0 where
   pub within : t ≤ count
   pub size : length f ≡ count * rows c
   pub column : (k : ℕ) → k < t → Column c matrix (first + k) (take (rows c) (drop (k * rows c) f))
 
 pub one-more : {c : List ℕ} {matrix first count : ℕ} {f : List ℕ} {t : ℕ} {new : List ℕ} →
-    Written c matrix first count f t → t < count → Column c matrix (first + t) new →
-    Written c matrix first count (putMid (t * rows c) (t * rows c + rows c - t * rows c) f new) (t + 1)
+    WrittenUpTo c matrix first count f t → t < count → Column c matrix (first + t) new →
+    WrittenUpTo c matrix first count (putMid (t * rows c) (t * rows c + rows c - t * rows c) f new) (t + 1)
 one-more {c} {matrix} {first} {count} {f} {t} {new} h l is-column =
     let fits : t * rows c + rows c ≤ length f = omega (arith, place-fits (rows c) l, h .size) in
     let size : length new ≡ rows c = is-column .size ∙ length-consecutive 1 (rows c) in

@@ -1,3 +1,3 @@
 pub mod CoefficientLaws
 pub mod ColumnLaws
-pub mod PartLaws
+pub mod MiddleLaws

@@ -1,9 +1,9 @@
 // The coefficients of one column of a matrix, row by row, in one pass over the listed entries. RULES 2.
 ghost use mathlib.Core.Path.{_≡_};
-ghost use Prim.Native.Nat.{_+_, _≤_, _<_};
+ghost use Prim.Native.Nat.{_+_, _≤_};
 ghost use lib.ListN.{length, replicate};
 ghost use Rattle.circuit.specs.Circuit.{rows, entries, entryAt};
-ghost use Rattle.circuit.specs.WellFormed.{EntryFormed, SectionFormed, Formed};
+ghost use Rattle.circuit.specs.WellFormed.{EntryFormed, SectionFormed, RowWords};
 ghost use Rattle.columns.specs.Coefficients.{listedColumn, coefColumn};
 
 // Entry e of the section whose count stands at `start`, into the word of its row where its column is j.
@@ -35,7 +35,7 @@ fn write_entries(circuit: &[u32], start: usize, j: u32, out: &mut [u32])
 
 // The coefficients of column j of matrix 0, 1 or 2, into as many words as there are rows.
 pub fn column_values(circuit: &[u32], matrix: usize, j: u32, out: &mut [u32])
-    requires { ⌜ Formed (now circuit) × (matrix < 3) × (length (now out) ≡ rows (now circuit)) ⌝ }
+    requires { ⌜ RowWords (now circuit) matrix (now out) ⌝ }
     ensures { λ _. ⌜ now (out .exit) ≡ coefColumn (now (circuit .entry)) matrix j ⌝ }
 {
     let start = reader::section_start(circuit, matrix);

@@ -4,12 +4,16 @@ ghost use Prim.Native.Nat.{_+_, _≤_, _<_};
 ghost use lib.ListN.{length};
 ghost use Rattle.field.specs.Field.{p};
 ghost use Rattle.basis.specs.Column.{Prepared};
+ghost use Rattle.circuit.specs.Limits.{mostRows};
 ghost use Rattle.circuit.specs.Circuit.{rows};
-ghost use Rattle.circuit.specs.WellFormed.{Formed};
+ghost use Rattle.circuit.specs.WellFormed.{RowWords};
 ghost use Rattle.qap.specs.Polynomials.{Column};
 ghost use Rattle.qap.specs.Refusals.{columnVerdict, columnsVerdict};
 ghost use Rattle.columns.specs.Columns.{ColumnsRoom, ColumnsFrom};
 use outcome::Outcome;
+use outcome::require;
+use outcome::within;
+use refusals::length_verdict;
 
 // The circuit, then 9 for both numbers, then 8.
 pub fn column_verdict(circuit: &[u32], matrix: u32, column: u32, size: usize) -> Outcome
@@ -19,25 +23,11 @@ pub fn column_verdict(circuit: &[u32], matrix: u32, column: u32, size: usize) ->
     if read.number != 0 {
         return read;
     }
-    if 2 < matrix {
-        return Outcome {
-            number: 9,
-            place: 0,
-        };
-    }
-    if column < 1 {
-        return Outcome {
-            number: 9,
-            place: 0,
-        };
-    }
-    if circuit::counts::columns_of(circuit) < column as usize {
-        return Outcome {
-            number: 9,
-            place: 0,
-        };
-    }
-    refusals::length_verdict(size, circuit::counts::rows_of(circuit))
+    let n = circuit::counts::columns_of(circuit) as u32;
+    let m = circuit::counts::rows_of(circuit);
+    require(matrix <= 2, 9, 0)
+        .and_then(require(within(1, column, n), 9, 0))
+        .and_then(length_verdict(size, m))
 }
 
 // The circuit, then 9 for the matrix number alone, then 8.
@@ -48,20 +38,14 @@ pub fn columns_verdict(circuit: &[u32], matrix: u32, size: usize) -> Outcome
     if read.number != 0 {
         return read;
     }
-    if 2 < matrix {
-        return Outcome {
-            number: 9,
-            place: 0,
-        };
-    }
     let n = circuit::counts::columns_of(circuit);
     let m = circuit::counts::rows_of(circuit);
-    refusals::length_verdict(size, n * m)
+    require(matrix <= 2, 9, 0).and_then(length_verdict(size, n * m))
 }
 
 // The target and the basis weights of 1..m, into m + 1 and m words.
 fn prepare(z: &mut [u32], weights: &mut [u32])
-    requires { ⌜ (length (now z) ≡ length (now weights) + 1) × (0 < length (now weights)) × (length (now weights) ≤ 256) ⌝ }
+    requires { ⌜ (length (now z) ≡ length (now weights) + 1) × (0 < length (now weights)) × (length (now weights) ≤ mostRows) ⌝ }
     ensures { λ _. ⌜ Prepared p (length (now (weights .entry))) (now (z .exit)) (now (weights .exit)) ⌝ }
 {
     let inverses = field::table::inverses();
@@ -69,10 +53,9 @@ fn prepare(z: &mut [u32], weights: &mut [u32])
     basis::weights(weights, &inverses);
 }
 
-// The one-column writer: column j of matrix 0, 1 or 2, into the part that is lent for it.
+// The one-column writer: column j of matrix 0, 1 or 2, into the words lent for it.
 fn write_column(circuit: &[u32], matrix: usize, j: u32, z: &[u32], weights: &[u32], out: &mut [u32])
-    requires { ⌜ Formed (now circuit) × (matrix < 3) × (length (now out) ≡ rows (now circuit)) ⌝ }
-    requires { ⌜ Prepared p (rows (now circuit)) (now z) (now weights) ⌝ }
+    requires { ⌜ RowWords (now circuit) matrix (now out) × Prepared p (rows (now circuit)) (now z) (now weights) ⌝ }
     ensures { λ _. ⌜ Column (now (circuit .entry)) matrix j (now (out .exit)) ⌝ }
 {
     let m = out.len();
@@ -91,7 +74,7 @@ fn write_columns(
     weights: &[u32],
     out: &mut [u32],
 )
-    requires { ⌜ Formed (now circuit) × (matrix < 3) × ColumnsRoom (now circuit) first count (now out) ⌝ }
+    requires { ⌜ ColumnsRoom (now circuit) matrix first count (now out) ⌝ }
     requires { ⌜ Prepared p (rows (now circuit)) (now z) (now weights) ⌝ }
     ensures { λ _. ⌜ ColumnsFrom (now (circuit .entry)) matrix first count (now (out .exit)) ⌝ }
 {
@@ -114,7 +97,7 @@ fn write_columns(
 
 // The same with the target and the weights made once for all of them.
 pub fn fill_columns(circuit: &[u32], matrix: usize, first: u32, count: usize, out: &mut [u32])
-    requires { ⌜ Formed (now circuit) × (matrix < 3) × ColumnsRoom (now circuit) first count (now out) ⌝ }
+    requires { ⌜ ColumnsRoom (now circuit) matrix first count (now out) ⌝ }
     ensures { λ _. ⌜ ColumnsFrom (now (circuit .entry)) matrix first count (now (out .exit)) ⌝ }
 {
     let m = circuit::counts::rows_of(circuit);

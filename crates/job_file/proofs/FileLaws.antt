@@ -1,4 +1,4 @@
--- What an accepted file has: each check that its parts passed, where they end, and that the calls on them would accept too.
+-- What an accepted file has: each check that it passed, where circuit and assignment end, and that the calls on them would accept too.
 use mathlib.Core.List.{List}
 use mathlib.Core.Logic.{⊎-elim}
 use mathlib.Core.Path.{_≡_, refl, sym, _∙_}
@@ -18,30 +18,30 @@ use Rattle.circuit.proofs.Sections.{ends-within}
 use Rattle.assignment.specs.Assignment.{wordsVerdict, assignmentVerdict}
 use Rattle.assignment.proofs.Accepted.{assignment-formed}
 use Rattle.qap.specs.Refusals.{blinderWords, pointVerdict, readyVerdict, answersVerdict}
-use Rattle.job_file.specs.File.{assignmentOf, trailer, blindersOf, pointOf, sizeVerdict, trailerVerdict, fileVerdict, jobVerdict}
-use Rattle.job_file.specs.Parts.{partsVerdict, restVerdict}
-use Rattle.job_file.specs.Read.{Parted, Read}
+use Rattle.job_file.specs.File.{mostBytes, mostWords, assignmentOf, trailer, blindersOf, pointOf, sizeVerdict, trailerVerdict, fileVerdict, jobVerdict}
+use Rattle.job_file.specs.Given.{givenVerdict, restVerdict}
+use Rattle.job_file.specs.Read.{Split, Read}
 use Rattle.job_file.specs.declared.Job.{Job}
 
 -- a file that is not refused for its length is whole words, and not too many
 pub record WholeWords (size : ℕ) : Type 0 where
   pub whole : size ≡ 4 * (size / 4)
-  pub few : size / 4 ≤ 9486
+  pub few : size / 4 ≤ mostWords
 
 pub size-words : (size : ℕ) → Accepted (sizeVerdict size) → WholeWords size
 unfolding sizeVerdict
 size-words size h =
     let first = taken _ _ _ (lit< tt) h in
-    let most : size ≤ 37944 = leb-true _ _ (first .0) in
+    let most : size ≤ mostBytes = leb-true _ _ (first .0) in
     let left : size % 4 ≡ 0 = eqb-true _ _ (require-accepted _ 14 0 (lit< tt) (first .1)) in
     record { whole = omega arith; few = omega arith }
 
 -- the verdict as the code goes by it
-pub file-parts : (w : List ℕ) → fileVerdict w ≡ prefixVerdict w andThen restVerdict (leading w) (drop (ending w) w)
-unfolding fileVerdict restVerdict partsVerdict
-file-parts w = refl
+pub file-rest : (w : List ℕ) → fileVerdict w ≡ prefixVerdict w andThen restVerdict (leading w) (drop (ending w) w)
+unfolding fileVerdict restVerdict givenVerdict
+file-rest w = refl
 
--- a part lent up to the end
+-- words lent up to the end
 pub up-to-the-end : (n : ℕ) (w : List ℕ) → take (length w - n) (drop n w) ≡ drop n w
 up-to-the-end n w = take-all (length w - n) (drop n w) (simp length-drop (omega arith))
 
@@ -78,7 +78,7 @@ file-answers-ready w h =
     let ready = file-ready w h in
     accepted-both (ready .circuit) (accepted-both (ready .assignment) (ready .blinders))
 
--- with 10 last: the call for answers accepts the parts
+-- with 10 last: the call for answers accepts what the file holds
 pub job-answers : (w : List ℕ) → Accepted (jobVerdict w) →
     Accepted (answersVerdict (leading w) (assignmentOf w) (blindersOf w) (pointOf w))
 unfolding jobVerdict answersVerdict
@@ -89,12 +89,12 @@ job-answers w h =
 -- any two jobs that reading admits are equal
 pub read-determined : {w : List ℕ} {i j : Job} → Read w i → Read w j → i ≡ j
 read-determined {w} {i} {j} f g = ⊎-elim
-    (λ (h : Accepted (fileVerdict w)). parts (f .parted h) (g .parted h))
+    (λ (h : Accepted (fileVerdict w)). same (f .split h) (g .split h))
     (λ (h : Refused (fileVerdict w)). f .none h ∙ sym (g .none h))
     (accepted-or-refused (fileVerdict w))
   where
-    parts : Parted w i → Parted w j → i ≡ j
-    parts p q =
+    same : Split w i → Split w j → i ≡ j
+    same p q =
         let number = f .number-and-place ∙ sym (g .number-and-place) in
         let circuit = p .circuit ∙ sym (q .circuit) in
         let assignment = p .assignment ∙ sym (q .assignment) in
@@ -102,7 +102,7 @@ read-determined {w} {i} {j} f g = ⊎-elim
         let point = p .point ∙ sym (q .point) in
         λ t. record { outcome = number t; circuit = circuit t; assignment = assignment t; d = blinders t; s = point t }
 
--- where the parts end
+-- where circuit and assignment end
 pub record Ends (w : List ℕ) : Type 0 where
   pub circuit : length (leading w) ≡ ending w
   pub assignment : length (assignmentOf w) ≡ columns (leading w) + 2
@@ -129,13 +129,13 @@ pub record Lent (w : List ℕ) (j : Job) : Type 0 where
   pub ordered : j .circuit ≤ j .assignment
   pub within : j .assignment ≤ length w
 
-pub lent : {w : List ℕ} {j : Job} → Accepted (fileVerdict w) → Parted w j → Lent w j
-lent {w} {j} h parted =
+pub lent : {w : List ℕ} {j : Job} → Accepted (fileVerdict w) → Split w j → Lent w j
+lent {w} {j} h split =
     let end = ends w h in
     let size : j .assignment - j .circuit ≡ columns (leading w) + 2 = omega arith in
     record {
-      circuit = rw (parted .circuit);
-      assignment = rw (size, parted .circuit);
+      circuit = rw (split .circuit);
+      assignment = rw (size, split .circuit);
       ordered = omega arith;
       within = omega arith;
     }

@@ -1,4 +1,4 @@
--- Places are small: no verdict gives one above the number of its words, or 256. So 256 times a place fits 64 bits.
+-- Places are small: no verdict gives one above the number of its words, or the most rows. So 256 times a place fits 64 bits.
 use mathlib.Core.Bool.{Bool, true, false}
 use mathlib.Core.List.{List}
 use mathlib.Core.Logic.{⊎-elim}
@@ -10,6 +10,7 @@ use lib.ListN.{length, length-take, length-drop}
 use Rattle.outcome.specs.declared.Outcome.{Outcome}
 use Rattle.outcome.specs.Verdict.{Accepted, Refused, require, _andThen_, firstFault}
 use Rattle.outcome.proofs.Verdict.{accepted-or-refused, goes-on, stops, require-accepted}
+use Rattle.circuit.specs.Limits.{mostRows}
 use Rattle.circuit.specs.Circuit.{rows, entries, entryAt, section, leading}
 use Rattle.circuit.specs.Reader.{rangesVerdict, entryVerdict, sectionVerdict, countsVerdict, prefixVerdict, circuitVerdict}
 use Rattle.circuit.proofs.Formed.{circuit-formed}
@@ -56,8 +57,8 @@ module _ {bound : ℕ} where
   unfolding entryVerdict rangesVerdict
   near-entry c s e l = search near depth 16
 
-  -- a bound of at least 256 rows, and of as many words as there are
-  module _ (enough : 256 ≤ bound) where
+  -- a bound of at least the most rows, and of as many words as there are
+  module _ (enough : mostRows ≤ bound) where
     module _ (c : List ℕ) (few : length c ≤ bound) where
       near-section : (s : ℕ) → Near bound (sectionVerdict c s)
       unfolding sectionVerdict

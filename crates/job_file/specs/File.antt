@@ -13,7 +13,7 @@ use Rattle.rows.specs.Rows.{rowsVerdict}
 use Rattle.qap.specs.declared.Blinders.{Blinders}
 use Rattle.qap.specs.Refusals.{blinderWords, pointVerdict}
 
--- the parts of a file's words: the circuit at their front is `leading w`
+-- how a file's words are split: the circuit at their front is `leading w`
 
 -- the n + 2 words after it, or as many as there are
 abbrev pub assignmentOf : List ℕ → List ℕ
@@ -29,9 +29,17 @@ blindersOf w = record { first = word (trailer w) 1; second = word (trailer w) 2;
 abbrev pub pointOf : List ℕ → ℕ
 pointOf w = word (trailer w) 5
 
--- 14: above 37,944 bytes, or no multiple of 4
+-- how long a file can be
+
+abbrev pub mostBytes : ℕ
+mostBytes = 37944
+
+abbrev pub mostWords : ℕ
+mostWords = 9486
+
+-- 14: more bytes, or no multiple of 4
 unfoldable pub sizeVerdict : ℕ → Outcome
-sizeVerdict size = require (leb size 37944) 14 0 andThen require (eqb (size % 4) 0) 14 0
+sizeVerdict size = require (leb size mostBytes) 14 0 andThen require (eqb (size % 4) 0) 14 0
 
 -- 14: what remains is not exactly 6 words with those two counts
 unfoldable pub trailerVerdict : List ℕ → Outcome

@@ -1,3 +1,3 @@
 pub mod File
-pub mod Parts
+pub mod Given
 pub mod Read

@@ -1,4 +1,4 @@
--- What reading a job file's words gives: the verdict, and where it is 0, where the parts end, the blinders and the point.
+-- What reading a job file's words gives: the verdict, and where it is 0, where circuit and assignment end, the blinders and the point.
 use mathlib.Core.List.{List}
 use mathlib.Core.Path.{_≡_}
 use Prim.Native.Nat.{ℕ, _+_}
@@ -9,7 +9,7 @@ use Rattle.job_file.specs.File.{blindersOf, pointOf, fileVerdict}
 use Rattle.job_file.specs.declared.Job.{Job}
 
 -- the circuit ends where the assignment begins
-pub record Parted (w : List ℕ) (j : Job) : Type 0 where
+pub record Split (w : List ℕ) (j : Job) : Type 0 where
   pub circuit : j .circuit ≡ ending w
   pub assignment : j .assignment ≡ ending w + (columns (leading w) + 2)
   pub blinders : j .d ≡ blindersOf w
@@ -21,5 +21,5 @@ refused o = record { outcome = o; circuit = 0; assignment = 0; d = record { firs
 
 pub record Read (w : List ℕ) (j : Job) : Type 0 where
   pub number-and-place : j .outcome ≡ fileVerdict w
-  pub parted : Accepted (fileVerdict w) → Parted w j
+  pub split : Accepted (fileVerdict w) → Split w j
   pub none : Refused (fileVerdict w) → j ≡ refused (fileVerdict w)

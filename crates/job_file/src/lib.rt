@@ -1,12 +1,17 @@
-// Reads a job file's words: which number and place they get, and where their parts are (RULES 7).
+// Reads a job file's words: which number and place they get, and where circuit and assignment end (RULES 7).
 ghost use mathlib.Core.Path.{_≡_};
 ghost use lib.ListN.{length};
 ghost use Rattle.circuit.specs.WellFormed.{Formed};
 ghost use Rattle.job_file.specs.File.{sizeVerdict, trailerVerdict};
-ghost use Rattle.job_file.specs.Parts.{blindersIn, partsVerdict, restVerdict};
+ghost use Rattle.job_file.specs.Given.{blindersIn, givenVerdict, restVerdict};
 ghost use Rattle.job_file.specs.Read.{Read};
+use assignment::assignment_words_verdict;
+use circuit::limits::MATRICES;
 use outcome::Outcome;
+use outcome::require;
 use qap::Blinders;
+use refusals::blinders_verdict;
+use refusals::point_verdict;
 
 // The words [..circuit] are the circuit, [circuit..assignment] the assignment.
 pub struct Job {
@@ -17,56 +22,27 @@ pub struct Job {
     pub s: u32,
 }
 
-const MOST_BYTES: usize = 37944;
+// Of a job file: RULES 7.
+pub const MOST_BYTES: usize = 37944;
+
+pub const MOST_WORDS: usize = 9486;
 
 // 14 of a number of bytes.
 pub fn size_verdict(size: usize) -> Outcome
     ensures { λ r. ⌜ r ≡ sizeVerdict size ⌝ }
 {
-    if MOST_BYTES < size {
-        return Outcome {
-            number: 14,
-            place: 0,
-        };
-    }
-    if size % 4 != 0 {
-        return Outcome {
-            number: 14,
-            place: 0,
-        };
-    }
-    Outcome {
-        number: 0,
-        place: 0,
-    }
+    require(size <= MOST_BYTES, 14, 0).and_then(require(size % 4 == 0, 14, 0))
 }
 
 // 14 of what remains after the assignment.
 fn trailer_verdict(t: &[u32]) -> Outcome
     ensures { λ r. ⌜ r ≡ trailerVerdict (now (t .entry)) ⌝ }
 {
-    if t.len() != 6 {
-        return Outcome {
-            number: 14,
-            place: 0,
-        };
+    let sized = require(t.len() == 6, 14, 0);
+    if sized.number != 0 {
+        return sized;
     }
-    if t[0] != 3 {
-        return Outcome {
-            number: 14,
-            place: 0,
-        };
-    }
-    if t[4] != 1 {
-        return Outcome {
-            number: 14,
-            place: 0,
-        };
-    }
-    Outcome {
-        number: 0,
-        place: 0,
-    }
+    require(t[0] == 3, 14, 0).and_then(require(t[4] == 1, 14, 0))
 }
 
 // The three blinders among the words that remain.
@@ -82,23 +58,15 @@ fn blinders_in(t: &[u32]) -> Blinders
 }
 
 // The assignment, then what remains after it.
-fn parts_verdict(circuit: &[u32], values: &[u32], t: &[u32]) -> Outcome
+fn given_verdict(circuit: &[u32], values: &[u32], t: &[u32]) -> Outcome
     requires { ⌜ Formed (now circuit) ⌝ }
-    ensures { λ r. ⌜ r ≡ partsVerdict (now (circuit .entry)) (now (values .entry)) (now (t .entry)) ⌝ }
+    ensures { λ r. ⌜ r ≡ givenVerdict (now (circuit .entry)) (now (values .entry)) (now (t .entry)) ⌝ }
 {
-    let assigned = assignment::assignment_words_verdict(circuit, values);
-    if assigned.number != 0 {
-        return assigned;
-    }
-    let shaped = trailer_verdict(t);
+    let shaped = assignment_words_verdict(circuit, values).and_then(trailer_verdict(t));
     if shaped.number != 0 {
         return shaped;
     }
-    let blinded = refusals::blinders_verdict(blinders_in(t));
-    if blinded.number != 0 {
-        return blinded;
-    }
-    refusals::point_verdict(circuit, t[5])
+    blinders_verdict(blinders_in(t)).and_then(point_verdict(circuit, t[5]))
 }
 
 // All that follows the circuit.
@@ -107,13 +75,11 @@ fn rest_verdict(circuit: &[u32], rest: &[u32]) -> Outcome
     ensures { λ r. ⌜ r ≡ restVerdict (now (circuit .entry)) (now (rest .entry)) ⌝ }
 {
     let size = circuit::counts::columns_of(circuit) + 2;
-    if rest.len() < size {
-        return Outcome {
-            number: 6,
-            place: 0,
-        };
+    let enough = require(size <= rest.len(), 6, 0);
+    if enough.number != 0 {
+        return enough;
     }
-    parts_verdict(circuit, &rest[..size], &rest[size..])
+    given_verdict(circuit, &rest[..size], &rest[size..])
 }
 
 fn refused(outcome: Outcome) -> Job
@@ -132,7 +98,7 @@ fn refused(outcome: Outcome) -> Job
     }
 }
 
-// The whole file by all numbers but 10, which the caller asks for. Words that are refused have no parts.
+// The whole file by all numbers but 10, which the caller asks for. Words that are refused are not split.
 pub fn read(words: &[u32]) -> Job
     ensures { λ r. ⌜ Read (now (words .entry)) r ⌝ }
 {
@@ -140,7 +106,7 @@ pub fn read(words: &[u32]) -> Job
     if begun.number != 0 {
         return refused(begun);
     }
-    let end = reader::section_start(words, 3);
+    let end = reader::section_start(words, MATRICES);
     let found = rest_verdict(&words[..end], &words[end..]);
     if found.number != 0 {
         return refused(found);

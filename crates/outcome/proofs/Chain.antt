@@ -1,14 +1,14 @@
 -- How code that returns at the first failed check meets its verdict: each law takes off the verdict's first check,
 -- passed or failed. `search chain` walks down the checks by the facts that the branches left.
 -- RULES 6.
-use mathlib.Core.Bool.{Bool, true, false, _&&_}
-use mathlib.Core.Path.{_≡_, refl, sym, _∙_}
+use mathlib.Core.Bool.{Bool, true, false, not, _&&_}
+use mathlib.Core.Path.{_≡_, refl, sym, _∙_, ap}
 use Prim.Native.Nat.{ℕ, _<_, _≤_}
 use borrow.Author.Tests.{le-leb, lt-leb, le-ltb, eq-eqb, ne-eqb}
 use lib.Dec.{T, leb, ltb, eqb, lit<}
 use Rattle.outcome.specs.declared.Outcome.{Outcome}
 use Rattle.outcome.specs.Verdict.{fine, outcome, Refused, require, within, _andThen_}
-use Rattle.outcome.proofs.Verdict.{andThen-assoc, goes-on, stops, passes, fails, accepted-require, is-accepted, is-refused}
+use Rattle.outcome.proofs.Verdict.{andThen-assoc, goes-on, stops, passes, fails, accepted-require, require-accepted, is-accepted, is-refused}
 
 pub passed : {o rest : Outcome} {t : Bool} (number place : ℕ) → t ≡ true → o ≡ rest → o ≡ require t number place andThen rest
 passed {rest = rest} number place h e = e ∙ sym (goes-on rest (accepted-require number place h))
@@ -79,6 +79,16 @@ told-not rest l e h = failed rest l (sym e ∙ h)
 pub called : {a o rest d : Outcome} → d ≡ a → d .number ≡ 0 → o ≡ rest → o ≡ a andThen rest
 called {rest = rest} e h k = k ∙ sym (goes-on rest (is-accepted e h))
 
+-- where it is one check that passed, its test is true
+pub tested : {d : Outcome} {t : Bool} (number place : ℕ) → d ≡ require t number place → T (ltb 0 number) → d .number ≡ 0 → t ≡ true
+tested {t = t} number place e l h = require-accepted t number place (lit< l) (is-accepted e h)
+
+-- where it failed, its test is false, and it is the number and place
+pub tested-not : {d : Outcome} (t : Bool) (number place : ℕ) → d ≡ require t number place → (d .number ≡ 0 → ⊥) →
+    (t ≡ false) × (d ≡ outcome number place)
+tested-not true number place e h = absurd (h (ap (λ (o : Outcome). o .number) (e ∙ passes number place refl)))
+tested-not false number place e h = (refl, e ∙ fails number place refl)
+
 pub called-refused : {a d : Outcome} (rest : Outcome) → d ≡ a → (d .number ≡ 0 → ⊥) → d ≡ a andThen rest
 called-refused rest e h = e ∙ sym (stops rest (is-refused e h))
 
@@ -102,4 +112,8 @@ matched e h = rw (e, h)
 pub made : {o : Outcome} {r t : Bool} (number place : ℕ) → o ≡ require r number place → r ≡ t → o ≡ require t number place
 made number place e h = rw h at e
 
-pub ruleset chained = (refl, made, ends, unrolled, matched)
+-- the same where the opposite was asked for
+pub made-not : {o : Outcome} {r t : Bool} (number place : ℕ) → o ≡ require (not r) number place → r ≡ t → o ≡ require (not t) number place
+made-not number place e h = rw h at e
+
+pub ruleset chained = (refl, made, made-not, ends, unrolled, matched)

@@ -1,5 +1,5 @@
 -- Number and place, and how a refusal is put together: one check, one check after another, the first fault of many.
--- RULES 6: its table is read as checks, its order as `andThen` and `first`.
+-- RULES 6: its table is read as checks, its order as `andThen` and `firstFault`.
 use mathlib.Core.Bool.{Bool, true, false, _&&_}
 use mathlib.Core.List.{List}
 use mathlib.Core.Path.{_≡_}

@@ -2,55 +2,22 @@
 ghost use mathlib.Core.Path.{_≡_};
 ghost use Prim.Native.Nat.{_+_, _≤_};
 ghost use lib.ListN.{length};
-ghost use Rattle.circuit.specs.Circuit.{entryAt, section};
+ghost use Rattle.circuit.specs.Circuit.{entryAt};
 ghost use Rattle.circuit.specs.Reader.{rangesVerdict, entryVerdict};
 use outcome::Outcome;
+use outcome::require;
+use outcome::within;
 
+// Row and column by 3, then the value by 4.
 fn ranges_verdict(m: u32, n: u32, row: u32, column: u32, value: u32, at: usize) -> Outcome
     ensures { λ r. ⌜ r ≡ rangesVerdict m n row column value at ⌝ }
 {
-    if row < 1 {
-        return Outcome {
-            number: 3,
-            place: at,
-        };
-    }
-    if m < row {
-        return Outcome {
-            number: 3,
-            place: at,
-        };
-    }
-    if column < 1 {
-        return Outcome {
-            number: 3,
-            place: at,
-        };
-    }
-    if n < column {
-        return Outcome {
-            number: 3,
-            place: at,
-        };
-    }
-    if value < 1 {
-        return Outcome {
-            number: 4,
-            place: at,
-        };
-    }
-    if field::MINUS_ONE < value {
-        return Outcome {
-            number: 4,
-            place: at,
-        };
-    }
-    Outcome {
-        number: 0,
-        place: 0,
-    }
+    require(within(1, row, m), 3, at)
+        .and_then(require(within(1, column, n), 3, at))
+        .and_then(require(within(1, value, field::MINUS_ONE), 4, at))
 }
 
+// By row, then column.
 fn above(row: u32, column: u32, row_before: u32, column_before: u32) -> bool
     ensures { λ r. ⌜ r ≡ Rattle.circuit.specs.Reader.above row column «row_before» «column_before» ⌝ }
 {
@@ -90,17 +57,9 @@ pub fn entry_verdict(words: &[u32], start: usize, e: usize) -> Outcome
         words[at + 2],
         at,
     );
+    // Left here and not chained: a chain takes eleven instructions more for each entry.
     if ranges.number != 0 {
         return ranges;
     }
-    if ascends(words, start, e) {
-        return Outcome {
-            number: 0,
-            place: 0,
-        };
-    }
-    Outcome {
-        number: 5,
-        place: at,
-    }
+    require(ascends(words, start, e), 5, at)
 }

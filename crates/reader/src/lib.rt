@@ -6,49 +6,39 @@ ghost use Rattle.outcome.specs.Verdict.{firstFault};
 ghost use Rattle.circuit.specs.Circuit.{section};
 ghost use Rattle.circuit.specs.Reader.{sectionVerdict, countsVerdict, prefixVerdict, circuitVerdict};
 ghost use Rattle.circuit.specs.WellFormed.{Formed};
+use circuit::limits::MATRICES;
+use circuit::limits::MOST_COLUMNS;
+use circuit::limits::MOST_ENTRIES;
+use circuit::limits::MOST_ROWS;
 use outcome::Outcome;
+use outcome::fine;
+use outcome::require;
+use outcome::within;
 
 mod entry;
-
-const MOST_ROWS: u32 = 256;
-
-const MOST_COLUMNS: u32 = 256;
-
-const MOST_ENTRIES: usize = 1024;
 
 // Sections A, B, C from index 3 on. Both loops are left at the first fault met.
 fn sections_verdict(words: &[u32]) -> Outcome
     requires { ⌜ 3 ≤ length (now words) ⌝ }
     ensures { λ r. ⌜ r ≡ firstFault (λ matrix. sectionVerdict (now (words .entry)) (section (now (words .entry)) matrix)) 3 ⌝ }
 {
+    let size = words.len();
     let mut matrix: usize = 0;
     let mut start = 3;
     'sections: loop {
-        if 3 <= matrix {
-            break 'sections Outcome {
-                number: 0,
-                place: 0,
-            };
+        if MATRICES <= matrix {
+            break 'sections fine();
         }
-        if words.len() <= start {
-            break 'sections Outcome {
-                number: 1,
-                place: words.len(),
-            };
+        let counted = require(start < size, 1, size);
+        if counted.number != 0 {
+            break 'sections counted;
         }
         let entries = words[start] as usize;
-        if MOST_ENTRIES < entries {
-            break 'sections Outcome {
-                number: 2,
-                place: start,
-            };
-        }
         let end = start + 1 + 3 * entries;
-        if words.len() < end {
-            break 'sections Outcome {
-                number: 1,
-                place: words.len(),
-            };
+        let few = require(entries <= MOST_ENTRIES, 2, start);
+        let listed = few.and_then(require(end <= size, 1, size));
+        if listed.number != 0 {
+            break 'sections listed;
         }
         let mut e = 0;
         while e < entries {
@@ -63,66 +53,24 @@ fn sections_verdict(words: &[u32]) -> Outcome
     }
 }
 
+// m, n, q in that order; they stand as m, q, n.
 fn counts_verdict(m: u32, q: u32, n: u32) -> Outcome
     ensures { λ r. ⌜ r ≡ countsVerdict m q n ⌝ }
 {
-    if m < 1 {
-        return Outcome {
-            number: 2,
-            place: 0,
-        };
-    }
-    if MOST_ROWS < m {
-        return Outcome {
-            number: 2,
-            place: 0,
-        };
-    }
-    if n < 1 {
-        return Outcome {
-            number: 2,
-            place: 2,
-        };
-    }
-    if MOST_COLUMNS < n {
-        return Outcome {
-            number: 2,
-            place: 2,
-        };
-    }
-    if q < 1 {
-        return Outcome {
-            number: 2,
-            place: 1,
-        };
-    }
-    if n < q {
-        return Outcome {
-            number: 2,
-            place: 1,
-        };
-    }
-    Outcome {
-        number: 0,
-        place: 0,
-    }
+    require(within(1, m, MOST_ROWS), 2, 0)
+        .and_then(require(within(1, n, MOST_COLUMNS), 2, 2))
+        .and_then(require(within(1, q, n), 2, 1))
 }
 
 // Words that begin with a circuit; what follows it is the caller's to judge.
 pub fn prefix_verdict(words: &[u32]) -> Outcome
     ensures { λ r. ⌜ r ≡ prefixVerdict (now (words .entry)) ⌝ }
 {
-    if words.len() < 3 {
-        return Outcome {
-            number: 1,
-            place: words.len(),
-        };
+    let counted = require(3 <= words.len(), 1, words.len());
+    if counted.number != 0 {
+        return counted;
     }
-    let counts = counts_verdict(words[0], words[1], words[2]);
-    if counts.number != 0 {
-        return counts;
-    }
-    sections_verdict(words)
+    counts_verdict(words[0], words[1], words[2]).and_then(sections_verdict(words))
 }
 
 // The index of the count of entries of matrix 0, 1 or 2; for 3 the index where the circuit ends.
@@ -148,14 +96,6 @@ pub fn circuit_verdict(words: &[u32]) -> Outcome
     if begun.number != 0 {
         return begun;
     }
-    if section_start(words, 3) != words.len() {
-        return Outcome {
-            number: 1,
-            place: words.len(),
-        };
-    }
-    Outcome {
-        number: 0,
-        place: 0,
-    }
+    let end = section_start(words, MATRICES);
+    require(end == words.len(), 1, words.len())
 }

@@ -1,19 +1,22 @@
 // Row sums of a matrix in one pass over its listed entries, and the lowest failing row (RULES 6, number 10).
 ghost use mathlib.Core.Path.{_≡_};
-ghost use Prim.Native.Nat.{_+_, _≤_, _<_};
+ghost use Prim.Native.Nat.{_+_, _≤_};
 ghost use lib.ListN.{length};
-ghost use Rattle.circuit.specs.Circuit.{rows, publics, columns, entries, entryAt};
-ghost use Rattle.circuit.specs.WellFormed.{EntryFormed, SectionFormed, Formed};
+ghost use Rattle.circuit.specs.Limits.{mostColumns};
+ghost use Rattle.circuit.specs.Circuit.{rows, columns, entries, entryAt};
+ghost use Rattle.circuit.specs.WellFormed.{EntryFormed, SectionFormed, Formed, RowWords};
 ghost use Rattle.circuit.specs.Totals.{table};
 ghost use Rattle.assignment.specs.Assignment.{assignedAt};
-ghost use Rattle.assignment.specs.WellFormed.{AssignmentFormed, PublicFormed};
+ghost use Rattle.assignment.specs.WellFormed.{AssignmentFormed};
 ghost use Rattle.rows.specs.Rows.{rowSums};
 ghost use Rattle.rows.specs.Sums.{Span, entrySums, withEntry, sumsVerdict, RowsRead};
 use outcome::Outcome;
+use outcome::fine;
+use outcome::require;
 
 // The index of a column's value in an assignment.
 fn assigned_at(circuit: &[u32], column: usize) -> usize
-    requires { ⌜ (3 ≤ length (now circuit)) × (column < 1024) ⌝ }
+    requires { ⌜ (3 ≤ length (now circuit)) × (column ≤ mostColumns) ⌝ }
     ensures { λ r. ⌜ r ≡ assignedAt (now (circuit .entry)) column ⌝ }
 {
     if column <= circuit::counts::publics_of(circuit) {
@@ -79,7 +82,7 @@ pub fn row_sums(
     to: usize,
     out: &mut [u32],
 )
-    requires { ⌜ Formed (now circuit) × (matrix < 3) × Span (now circuit) (now values) from to × (length (now out) ≡ rows (now circuit)) ⌝ }
+    requires { ⌜ RowWords (now circuit) matrix (now out) × Span (now circuit) (now values) from to ⌝ }
     ensures { λ _. ⌜ now (out .exit) ≡ rowSums (now (circuit .entry)) (now (values .entry)) matrix from to ⌝ }
 {
     let start = reader::section_start(circuit, matrix);
@@ -89,51 +92,27 @@ pub fn row_sums(
 
 // Over all columns of an assignment.
 pub fn whole_sums(circuit: &[u32], matrix: usize, values: &[u32], out: &mut [u32])
-    requires { ⌜ Formed (now circuit) × (matrix < 3) × AssignmentFormed (now circuit) (now values) × (length (now out) ≡ rows (now circuit)) ⌝ }
+    requires { ⌜ RowWords (now circuit) matrix (now out) × AssignmentFormed (now circuit) (now values) ⌝ }
     ensures { λ _. ⌜ now (out .exit) ≡ rowSums (now (circuit .entry)) (now (values .entry)) matrix 0 (columns (now (circuit .entry))) ⌝ }
 {
     let n = circuit::counts::columns_of(circuit);
     row_sums(circuit, matrix, values, 0, n, out);
 }
 
-// Over the public columns; a public section alone has their values.
-pub fn public_sums(circuit: &[u32], matrix: usize, values: &[u32], out: &mut [u32])
-    requires { ⌜ Formed (now circuit) × (matrix < 3) × PublicFormed (now circuit) (now values) × (length (now out) ≡ rows (now circuit)) ⌝ }
-    ensures { λ _. ⌜ now (out .exit) ≡ rowSums (now (circuit .entry)) (now (values .entry)) matrix 0 (publics (now (circuit .entry))) ⌝ }
-{
-    let q = circuit::counts::publics_of(circuit);
-    row_sums(circuit, matrix, values, 0, q, out);
-}
-
-// Over the private columns of an assignment.
-pub fn private_sums(circuit: &[u32], matrix: usize, values: &[u32], out: &mut [u32])
-    requires { ⌜ Formed (now circuit) × (matrix < 3) × AssignmentFormed (now circuit) (now values) × (length (now out) ≡ rows (now circuit)) ⌝ }
-    ensures { λ _. ⌜ now (out .exit) ≡ rowSums (now (circuit .entry)) (now (values .entry)) matrix (publics (now (circuit .entry))) (columns (now (circuit .entry))) ⌝ }
-{
-    let q = circuit::counts::publics_of(circuit);
-    let n = circuit::counts::columns_of(circuit);
-    row_sums(circuit, matrix, values, q, n, out);
-}
-
 // The lowest row where the product of the first two sums is not the third.
-pub fn sums_verdict(a: &[u32], b: &[u32], c: &[u32]) -> Outcome
+fn sums_verdict(a: &[u32], b: &[u32], c: &[u32]) -> Outcome
     requires { ⌜ (length (now b) ≡ length (now a)) × (length (now c) ≡ length (now a)) ⌝ }
     ensures { λ r. ⌜ r ≡ sumsVerdict (now (a .entry)) (now (b .entry)) (now (c .entry)) ⌝ }
 {
     let mut i = 0;
     while i < a.len() {
-        if field::times(a[i], b[i]) != c[i] {
-            return Outcome {
-                number: 10,
-                place: i + 1,
-            };
+        let found = require(field::times(a[i], b[i]) == c[i], 10, i + 1);
+        if found.number != 0 {
+            return found;
         }
         i += 1;
     }
-    Outcome {
-        number: 0,
-        place: 0,
-    }
+    fine()
 }
 
 // The three lists of sums over all columns, and 10 at the lowest failing row.

@@ -6,24 +6,17 @@ ghost use Rattle.algebra.specs.Points.{consecutive, target};
 ghost use Rattle.field.specs.Field.{p};
 ghost use Rattle.qap.specs.Refusals.{targetVerdict};
 ghost use Rattle.qap.specs.Calls.{TargetCall};
+use circuit::limits::MOST_ROWS;
 use outcome::Outcome;
+use outcome::require;
+use outcome::within;
+use refusals::length_verdict;
 
+// m alone, then the length wanted.
 fn target_verdict(m: u32, size: usize) -> Outcome
     ensures { λ r. ⌜ r ≡ targetVerdict m size ⌝ }
 {
-    if m < 1 {
-        return Outcome {
-            number: 2,
-            place: 0,
-        };
-    }
-    if 256 < m {
-        return Outcome {
-            number: 2,
-            place: 0,
-        };
-    }
-    refusals::length_verdict(size, m as usize + 1)
+    require(within(1, m, MOST_ROWS), 2, 0).and_then(length_verdict(size, m as usize + 1))
 }
 
 fn fill_target(m: u32, out: &mut [u32])

@@ -12,7 +12,7 @@ use Rattle.assignment.proofs.public_section.Statement.{statement}
 use Rattle.assignment.proofs.public_section.Tie as tie
 
 formed : (c : tie.Else1) → let args = c .before .before .before .before .before .args in
-    WellFormed (args .circuit .now) × AssignmentFormed (args .circuit .now) (args .words .now)
+    WellFormed (args .circuit .now) × AssignmentFormed (args .circuit .now) (args .values .now)
 formed c = both-formed _ _ (is-accepted (c .before .before .assignment-verdict .ensures) (c .if1 .left))
 
 returns : tie.Need-returns

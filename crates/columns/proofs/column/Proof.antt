@@ -17,14 +17,13 @@ accepted : tie.Need-fill-columns-requires
 accepted c κs =
     let verdict = c .before .before .before in
     let asked = column-asked _ _ _ _ (is-accepted (verdict .column-verdict .ensures) (c .before .if1 .left)) in
-    let formed = circuit-formed _ (asked .circuit) .formed in (
-      formed,
-      omega (arith, asked .of-three),
-      record {
-        few = omega (arith, asked .among .at-most, formed .column-count .at-most);
-        size = asked .exact ∙ omega arith;
-      },
-    )
+    let formed = circuit-formed _ (asked .circuit) .formed in
+    record {
+      circuit = formed;
+      of-three = omega (arith, asked .of-three);
+      few = omega (arith, asked .among .at-most, formed .column-count .at-most);
+      size = asked .exact ∙ omega arith;
+    }
 
 returns-2 : tie.Need-returns-2
 returns-2 c =

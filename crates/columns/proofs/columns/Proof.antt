@@ -23,14 +23,13 @@ accepted : tie.Need-fill-columns-requires
 accepted c κs =
     let all = asked (c .before .before) in
     let formed = circuit-formed _ (all .circuit) .formed in
-    let n = c .before .columns-of .ensures in (
-      formed,
-      omega (arith, all .of-three),
-      record {
-        few = omega (arith, n, formed .column-count .at-most);
-        size = all .exact ∙ rw n;
-      },
-    )
+    let n = c .before .columns-of .ensures in
+    record {
+      circuit = formed;
+      of-three = omega (arith, all .of-three);
+      few = omega (arith, n, formed .column-count .at-most);
+      size = all .exact ∙ rw n;
+    }
 
 returns-2 : tie.Need-returns-2
 returns-2 c =

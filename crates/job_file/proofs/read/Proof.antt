@@ -17,10 +17,10 @@ use Rattle.circuit.proofs.Formed.{prefix-formed}
 use Rattle.circuit.proofs.Prefix.{leading-count, leading-formed}
 use Rattle.circuit.proofs.Sections.{ends-within}
 use Rattle.job_file.specs.File.{trailer, blindersOf, pointOf, fileVerdict}
-use Rattle.job_file.specs.Parts.{blindersIn, restVerdict}
+use Rattle.job_file.specs.Given.{blindersIn, restVerdict}
 use Rattle.job_file.specs.Read.{Read, refused}
 use Rattle.job_file.specs.declared.Job.{Job}
-use Rattle.job_file.proofs.FileLaws.{file-parts, up-to-the-end, ends}
+use Rattle.job_file.proofs.FileLaws.{file-rest, up-to-the-end, ends}
 use Rattle.job_file.proofs.read.Statement.{statement}
 use Rattle.job_file.proofs.read.Tie as tie
 
@@ -29,19 +29,19 @@ refusal w told positive given =
     let is : Refused (fileVerdict w) = is-refused told positive in
     record {
       number-and-place = rw given told;
-      parted = λ a. absurd (not-both a is);
+      split = λ a. absurd (not-both a is);
       none = λ r. given ∙ ap refused told;
     }
 
 module _ (w : List ℕ) where
   -- the circuit's verdict, where it refuses
   begun-refused : {o : Outcome} → o ≡ prefixVerdict w → (o .number ≡ 0 → ⊥) → o ≡ fileVerdict w
-  begun-refused told positive = rw (file-parts w) (called-refused _ told positive)
+  begun-refused told positive = rw (file-rest w) (called-refused _ told positive)
 
   module _ {end : ℕ} (begun : Accepted (prefixVerdict w)) (at : end ≡ ending w) where
     -- the verdict of what follows the circuit
     found-after : {o : Outcome} → o ≡ restVerdict (take end w) (take (length w - end) (drop end w)) → o ≡ fileVerdict w
-    found-after told = told ∙ rw (at, up-to-the-end (ending w) w, file-parts w, goes-on _ begun)
+    found-after told = told ∙ rw (at, up-to-the-end (ending w) w, file-rest w, goes-on _ begun)
 
     begins-formed : Formed (take end w)
     begins-formed = rw at (leading-formed w (prefix-formed w begun) .formed)
@@ -72,7 +72,7 @@ accepted : (c : tie.Else2) →
     Accepted (fileVerdict (c .before .before .before .before .before .before .before .before .before .before .args .words .now))
 accepted c = is-accepted (found (c .before .before)) (c .if2 .left)
 
--- where the parts end, in what the code has counted
+-- where circuit and assignment end, in what the code has counted
 end : (c : tie.After-columns-of) →
     let start = c .before .before .before .before .before .before .before .before .before .before .before in
     let last = c .before .before .before .before .before .before .section-start .result + c .columns-of .result + 2 in
@@ -80,7 +80,7 @@ end : (c : tie.After-columns-of) →
 end c =
     let start = c .before .before .before .before .before .before .before .before .before .before .before in
     let w = start .args .words .now in
-    let parted = ends w (accepted (c .before)) in
+    let split = ends w (accepted (c .before)) in
     let counted = leading-count w 2 (omega arith) in
     let circuit = c .before .before .before .before .before .before .section-start .ensures in
     let wide = c .columns-of .ensures in
@@ -101,7 +101,7 @@ returns-3 c =
     let verdict = found (counted .before .before .before) in
     record {
       number-and-place = verdict;
-      parted = λ a. record {
+      split = λ a. record {
         circuit = counted .before .before .before .before .before .before .section-start .ensures;
         assignment = last;
         blinders = c .before .blinders-in .ensures ∙ blinders _ last;

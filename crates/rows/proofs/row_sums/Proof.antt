@@ -12,9 +12,10 @@ add-entries-requires : tie.Need-add-entries-requires
 unfolding zeros
 add-entries-requires c κs =
     let entry = c .before .before .before .before .before .before .before .before .before in
+    let asked = entry .pre .0 in
     let begins = c .before .before .before .before .before .section-start .ensures in (
-      (entry .pre .0, rw begins (entry .pre .0 .matrices (entry .args .matrix) (entry .pre .1))),
-      (entry .pre .2, c .before .before .before .clear .ensures ∙ table-zero _ ∙ ap (table (λ i. 0)) (entry .pre .3)),
+      (asked .circuit, rw begins (asked .circuit .matrices (entry .args .matrix) (asked .of-three))),
+      (entry .pre .1, c .before .before .before .clear .ensures ∙ table-zero _ ∙ ap (table (λ i. 0)) (asked .size)),
     )
 
 returns : tie.Need-returns
@@ -22,7 +23,7 @@ returns c =
     let entry = c .before .before .before .before .before .before .before .before .before .before .before .before in
     let begins = c .before .before .before .before .before .before .before .before .section-start .ensures in
     rw begins at (c .before .before .add-entries .ensures)
-    ∙ all-entries (entry .pre .0) _ _ _ _ (entry .pre .1) (entry .pre .2 .ascending)
+    ∙ all-entries (entry .pre .0 .circuit) _ _ _ _ (entry .pre .0 .of-three) (entry .pre .1 .ascending)
 
 pub row-sums-spec : {M : Type 1} → statement M
 row-sums-spec =

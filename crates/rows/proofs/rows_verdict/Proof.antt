@@ -13,5 +13,6 @@ returns c =
     record { sums = record { first = a; second = b; third = d }; outcome = rw (a, b, d) at (c .sums-verdict .ensures) ∙ sums-rows _ _ }
 
 pub rows-verdict-spec : {M : Type 1} → statement M
-rows-verdict-spec =
-    tie.close (tie.spec (λ c κs. search needs) (λ c κs. search needs) (λ c κs. search needs) (λ c κs. search needs) (λ c. search needs) (λ c. search needs) (λ c. search needs) returns)
+rows-verdict-spec = tie.close
+    (tie.spec (λ c κs. search needs) (λ c κs. search needs) (λ c κs. search needs) (λ c κs. search needs) (λ c. search needs) (λ c. search needs)
+    (λ c. search needs) returns)

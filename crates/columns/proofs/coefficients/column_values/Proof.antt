@@ -12,8 +12,8 @@ unfolding zeros
 write-entries-requires c κs =
     let entry = c .before .before .before .before .before .before .before .before in
     let begins = c .before .before .before .before .before .section-start .ensures in (
-      rw begins (entry .pre .0 .matrices (entry .args .matrix) (entry .pre .1)),
-      c .before .before .before .clear .ensures ∙ ap (λ n. replicate n 0) (entry .pre .2),
+      rw begins (entry .pre .circuit .matrices (entry .args .matrix) (entry .pre .of-three)),
+      c .before .before .before .clear .ensures ∙ ap (λ n. replicate n 0) (entry .pre .size),
     )
 
 returns : tie.Need-returns

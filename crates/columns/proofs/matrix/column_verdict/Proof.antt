@@ -1,6 +1,7 @@
--- Each return is one failed check of the verdict, after those that passed; the counts are read once the circuit is accepted.
+-- The checks in their order; the counts are read once the circuit is accepted.
+use native.Mathlib.Omega.{arith}
 use borrow.Author.Needs.{needs}
-use Rattle.outcome.proofs.Chain.{calls}
+use Rattle.outcome.proofs.Chain.{chained, called, called-refused}
 use Rattle.outcome.proofs.Verdict.{is-accepted}
 use Rattle.circuit.specs.WellFormed.{Formed}
 use Rattle.circuit.proofs.Formed.{circuit-formed}
@@ -13,28 +14,18 @@ formed c = circuit-formed _ (is-accepted (c .before .before .circuit-verdict .en
 
 returns : tie.Need-returns
 unfolding columnVerdict
-returns c = search calls depth 16
+returns c = called-refused _ (c .before .before .circuit-verdict .ensures) (c .if1 .taken)
 
 returns-2 : tie.Need-returns-2
 unfolding columnVerdict
-returns-2 c = search calls depth 16
-
-returns-3 : tie.Need-returns-3
-unfolding columnVerdict
-returns-3 c = search calls depth 16
-
-returns-4 : tie.Need-returns-4
-unfolding columnVerdict
-returns-4 c = let beyond = rw (c .before .columns-of .ensures) at (c .if4 .taken) in search calls depth 16
-
-returns-5 : tie.Need-returns-5
-unfolding columnVerdict
-returns-5 c =
-    let among = rw (c .before .before .before .columns-of .ensures) at (c .before .before .if4 .left) in
-    let wanted = rw (c .before .rows-of .ensures) at (c .length-verdict .ensures) in
-    search calls depth 16
+returns-2 c =
+    let counts = c .before .before .before .before .before .before in
+    let read = counts .before .before in
+    rw (← counts .before .columns-of .ensures, ← counts .rows-of .ensures)
+    (called (read .before .before .circuit-verdict .ensures) (read .if1 .left) (search chained depth 16))
 
 pub column-verdict-spec : {M : Type 1} → statement M
 column-verdict-spec = tie.close
-    (tie.spec (λ c κs. search needs) returns returns-2 returns-3 (λ c κs. formed (c .before .before) .counts) returns-4
-    (λ c κs. formed (c .before .before .before .before) .counts) (λ c κs. search needs) returns-5)
+    (tie.spec (λ c κs. search needs) returns (λ c κs. formed c .counts) (λ c. omega (arith, c .columns-of .ensures, formed (c .before) .column-count .at-most))
+    (λ c κs. formed (c .before) .counts) (λ c κs. search needs) (λ c κs. search needs) (λ c κs. search needs) (λ c κs. search needs)
+    (λ c κs. search needs) (λ c κs. search needs) returns-2)

@@ -2,7 +2,7 @@
 use native.Mathlib.Nat.{mul-le-mul}
 use native.Mathlib.Omega.{arith}
 use borrow.Author.Needs.{needs}
-use Rattle.outcome.proofs.Chain.{calls}
+use Rattle.outcome.proofs.Chain.{chained, called, called-refused}
 use Rattle.outcome.proofs.Verdict.{is-accepted}
 use Rattle.circuit.specs.WellFormed.{Formed}
 use Rattle.circuit.proofs.Formed.{circuit-formed}
@@ -15,25 +15,24 @@ formed c = circuit-formed _ (is-accepted (c .before .before .circuit-verdict .en
 
 returns : tie.Need-returns
 unfolding columnsVerdict
-returns c = search calls depth 16
-
-returns-2 : tie.Need-returns-2
-unfolding columnsVerdict
-returns-2 c = search calls depth 16
+returns c = called-refused _ (c .before .before .circuit-verdict .ensures) (c .if1 .taken)
 
 product : tie.Need-mul-length-verdict
 product c =
-    let counts = formed (c .before .before .before) in
-    rw (c .before .columns-of .ensures, c .rows-of .ensures)
-    (omega (arith, mul-le-mul (counts .column-count .at-most) (counts .row-count .at-most)))
+    let counts = c .before in
+    let accepted = formed (counts .before .before) in
+    rw (counts .before .columns-of .ensures, counts .rows-of .ensures)
+    (omega (arith, mul-le-mul (accepted .column-count .at-most) (accepted .row-count .at-most)))
 
-returns-3 : tie.Need-returns-3
+returns-2 : tie.Need-returns-2
 unfolding columnsVerdict
-returns-3 c =
-    let wanted = rw (c .before .before .columns-of .ensures, c .before .rows-of .ensures) at (c .length-verdict .ensures) in
-    search calls depth 16
+returns-2 c =
+    let counts = c .before .before .before in
+    let read = counts .before .before in
+    rw (← counts .before .columns-of .ensures, ← counts .rows-of .ensures)
+    (called (read .before .before .circuit-verdict .ensures) (read .if1 .left) (search chained depth 16))
 
 pub columns-verdict-spec : {M : Type 1} → statement M
 columns-verdict-spec = tie.close
-    (tie.spec (λ c κs. search needs) returns returns-2 (λ c κs. formed (c .before) .counts) (λ c κs. formed (c .before .before) .counts)
-    product (λ c κs. search needs) returns-3)
+    (tie.spec (λ c κs. search needs) returns (λ c κs. formed c .counts) (λ c κs. formed (c .before) .counts) (λ c κs. search needs)
+    product (λ c κs. search needs) (λ c κs. search needs) returns-2)

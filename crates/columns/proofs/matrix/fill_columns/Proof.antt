@@ -3,18 +3,19 @@ use mathlib.Core.Path.{sym, _∙_}
 use Prim.Native.Nat.{_+_, _≤_}
 use native.Mathlib.Omega.{arith}
 use borrow.Author.Needs.{needs}
+use Rattle.circuit.specs.Limits.{mostRows}
 use Rattle.slices.proofs.Rooms.{Front, Back, front, back}
 use Rattle.columns.proofs.matrix.fill_columns.Statement.{statement}
 use Rattle.columns.proofs.matrix.fill_columns.Tie as tie
 
-few : (c : tie.After-rows-of) → c .rows-of .result ≤ 256
-few c = let start = c .before .before .before in omega (arith, c .rows-of .ensures, start .pre .0 .row-count .at-most)
+few : (c : tie.After-rows-of) → c .rows-of .result ≤ mostRows
+few c = let start = c .before .before .before in omega (arith, c .rows-of .ensures, start .pre .circuit .row-count .at-most)
 
 z-front : (c : tie.After-room) → Front (c .before .rows-of .result + 1) (c .room .result)
-z-front c = front _ 257 (omega (arith, few (c .before))) (c .room .ensures)
+z-front c = front _ _ (omega (arith, few (c .before))) (c .room .ensures)
 
 weights-front : (c : tie.After-room2) → Front (c .before .before .rows-of .result) (c .room2 .result)
-weights-front c = front _ 257 (omega (arith, few (c .before .before))) (c .room2 .ensures)
+weights-front c = front _ _ (omega (arith, few (c .before .before))) (c .room2 .ensures)
 
 z-back : (c : tie.After-prepare) →
     Back (c .before .before .before .before .before .rows-of .result + 1) (c .before .before .before .before .room .result) (c .prepare .last .0)
@@ -30,7 +31,7 @@ prepare-requires c κs =
     let start = m .before .before .before in
     let z = z-front (c .before .before .before) .size in
     let weights = weights-front (c .before .before) .size in
-    let some = start .pre .0 .row-count .at-least in
+    let some = start .pre .circuit .row-count .at-least in
     (omega arith, omega (arith, m .rows-of .ensures), omega (arith, few m))
 
 write-columns-requires : tie.Need-write-columns-requires
@@ -39,7 +40,7 @@ write-columns-requires c κs =
     let m = prepared .before .before .before .before .before in
     let start = m .before .before .before in
     let count = sym (weights-front (prepared .before .before .before) .size) ∙ m .rows-of .ensures in (
-      (start .pre .0, start .pre .1, start .pre .2),
+      start .pre,
       rw (z-back prepared .words, weights-back prepared .words) (rw count at (prepared .prepare .ensures)),
     )
 

@@ -11,7 +11,7 @@ use Rattle.columns.proofs.matrix.write_column.Tie as tie
 values-front : (c : tie.After-room) → Front (length (c .before .before .before .before .before .args .out .now)) (c .room .result)
 values-front c =
     let start = c .before .before .before .before .before in
-    front _ 257 (omega (arith, start .pre .0 .0 .row-count .at-most, start .pre .0 .2)) (c .room .ensures)
+    front _ _ (omega (arith, start .pre .0 .circuit .row-count .at-most, start .pre .0 .size)) (c .room .ensures)
 
 values-back : (c : tie.After-column-values) →
     Back (length (c .before .before .before .before .before .before .before .args .out .now)) (c .before .before .room .result)
@@ -21,12 +21,16 @@ values-back c = back _ (values-front (c .before .before)) (c .column-values .kep
 column-values-requires : tie.Need-column-values-requires
 column-values-requires c κs =
     let start = c .before .before .before .before .before .before in
-    (start .pre .0 .0, start .pre .0 .1, sym (values-front (c .before) .size) ∙ start .pre .0 .2)
+    record {
+      circuit = start .pre .0 .circuit;
+      of-three = start .pre .0 .of-three;
+      size = sym (values-front (c .before) .size) ∙ start .pre .0 .size;
+    }
 
 column-through-requires : tie.Need-column-through-requires
 column-through-requires c κs =
     let start = c .before .before .before .before .before .before .before .before .before .before in
-    (sym (values-back (c .before .before .before) .size), rw (start .pre .0 .2) (start .pre .1))
+    (sym (values-back (c .before .before .before) .size), rw (start .pre .0 .size) (start .pre .1))
 
 returns : tie.Need-returns
 returns c =

@@ -6,12 +6,13 @@ use native.Mathlib.Omega.{arith}
 use borrow.Author.Needs.{needs}
 use borrow.Rule.Slice.PartMut.{mid-len}
 use lib.ListN.{length}
-use Rattle.columns.proofs.ColumnLaws.{Written, place-fits, one-more}
+use Rattle.circuit.specs.Limits.{mostRows, mostColumns}
+use Rattle.columns.proofs.ColumnLaws.{WrittenUpTo, place-fits, one-more}
 use Rattle.columns.proofs.matrix.write_columns.Statement.{statement}
 use Rattle.columns.proofs.matrix.write_columns.Tie as tie
 
 abbrev Inv-loop : tie.InvT-loop
-Inv-loop circuit matrix first count z weights out₀ m t₀ out t = Written circuit matrix first count out t
+Inv-loop circuit matrix first count z weights out₀ m t₀ out t = WrittenUpTo circuit matrix first count out t
 
 abbrev μ-loop : tie.MeasureT-loop
 μ-loop circuit matrix first count z weights out₀ m t₀ out t = count - t
@@ -19,7 +20,7 @@ abbrev μ-loop : tie.MeasureT-loop
 loop-holds : tie.Need-loop-holds Inv-loop μ-loop
 loop-holds c =
     let start = c .before .before .before .before .before in
-    record { within = search needs; size = start .pre .0 .2 .size; column = λ k l. absurd (omega arith) }
+    record { within = search needs; size = start .pre .0 .size; column = λ k l. absurd (omega arith) }
 
 -- the place lent next
 inside : (c : tie.In-loop Inv-loop μ-loop) →
@@ -29,17 +30,23 @@ inside c =
     rw (c .before .before .rows-of .ensures, here .inv .size) (place-fits _ (c .loop-test .taken))
 
 -- there are few words
-small : (c : tie.In-loop Inv-loop μ-loop) → length (c .before .loop .out) ≤ 1024 * 256
+small : (c : tie.In-loop Inv-loop μ-loop) → length (c .before .loop .out) ≤ (mostColumns + 1) * mostRows
 small c =
     let start = c .before .before .before .before .before .before .before in
-    let count : start .args .count ≤ 1024 = omega (arith, start .pre .0 .2 .few) in
-    rw (c .before .loop .inv .size) (mul-le-mul count (start .pre .0 .0 .row-count .at-most))
+    let count : start .args .count ≤ mostColumns + 1 = omega (arith, start .pre .0 .few) in
+    rw (c .before .loop .inv .size) (mul-le-mul count (start .pre .0 .circuit .row-count .at-most))
 
 write-column-requires : tie.Need-write-column-requires Inv-loop μ-loop
 write-column-requires c κs =
     let start = c .before .before .before .before .before .before .before .before in
-    let m = c .before .before .before .rows-of in
-    ((start .pre .0 .0, start .pre .0 .1, mid-len _ _ _ (inside (c .before)) ∙ (omega (arith, m .ensures))), start .pre .1)
+    let m = c .before .before .before .rows-of in (
+      record {
+        circuit = start .pre .0 .circuit;
+        of-three = start .pre .0 .of-three;
+        size = mid-len _ _ _ (inside (c .before)) ∙ omega (arith, m .ensures);
+      },
+      start .pre .1,
+    )
 
 loop-again : tie.Need-loop-again Inv-loop μ-loop
 loop-again c =

@@ -1,4 +1,5 @@
--- A file's verdict by its parts, as the code reads them: a circuit, and the words after it.
+-- What a job gives beside its circuit, judged as the code reads it: the assignment, and what remains after it.
+-- RULES 7.
 -- proofs/FileLaws.antt shows that `fileVerdict` is made of these.
 use mathlib.Core.List.{List}
 use Prim.Native.Nat.{ℕ, _+_}
@@ -15,8 +16,8 @@ abbrev pub blindersIn : List ℕ → Blinders
 blindersIn t = record { first = word t 1; second = word t 2; third = word t 3 }
 
 -- circuit, assignment, and what remains after them
-unfoldable pub partsVerdict : List ℕ → List ℕ → List ℕ → Outcome
-partsVerdict c a t =
+unfoldable pub givenVerdict : List ℕ → List ℕ → List ℕ → Outcome
+givenVerdict c a t =
     assignmentVerdict c a
     andThen trailerVerdict t
     andThen wordsVerdict 12 0 (blinderWords (blindersIn t))
@@ -24,4 +25,4 @@ partsVerdict c a t =
 
 -- circuit, and all words after it
 unfoldable pub restVerdict : List ℕ → List ℕ → Outcome
-restVerdict c r = partsVerdict c (take (columns c + 2) r) (drop (columns c + 2) r)
+restVerdict c r = givenVerdict c (take (columns c + 2) r) (drop (columns c + 2) r)
