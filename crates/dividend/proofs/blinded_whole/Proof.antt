@@ -11,7 +11,7 @@ sums-requires : tie.Need-whole-sums-requires
 sums-requires c κs =
     let start = c .before .before .before .before .before in
     let given = start .pre .0 in
-    (given .circuit, start .pre .1, given .assignment, length-take-le _ _ (omega arith) ∙ given .count)
+    (record { circuit = given .circuit; of-three = start .pre .1; size = length-take-le _ _ (omega arith) ∙ given .count }, given .assignment)
 
 blind-requires : tie.Need-blind-requires
 blind-requires c κs =

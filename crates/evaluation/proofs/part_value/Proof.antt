@@ -23,7 +23,7 @@ made c = back _ (lent (c .before .before)) (c .row-sums .kept .1 .1 .1 .1 .1 .0)
 requires : tie.Need-row-sums-requires
 requires c κs =
     let given = start (c .before) .pre in
-    (given .circuit, given .of-three, given .span, sym (lent (c .before) .size) ∙ given .size)
+    (record { circuit = given .circuit; of-three = given .of-three; size = sym (lent (c .before) .size) ∙ given .size }, given .span)
 
 returns : tie.Need-returns
 returns c =

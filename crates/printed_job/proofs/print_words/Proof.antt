@@ -18,7 +18,7 @@ accepted : (c : tie.Else1) → Accepted (fileVerdict (c .before .before .before 
 accepted c = is-accepted (c .before .before .read .ensures .number-and-place) (c .if1 .left)
 
 parts : (c : tie.Else1) → Lent (c .before .before .before .before .before .args .words .now) (c .before .before .read .result)
-parts c = lent (accepted c) (c .before .before .read .ensures .parted (accepted c))
+parts c = lent (accepted c) (c .before .before .read .ensures .split (accepted c))
 
 within : (c : tie.Else1) → c .before .before .read .result .circuit ≤ length (c .before .before .before .before .before .args .words .now)
 within c = let l = parts c in omega (arith, l .ordered, l .within)
@@ -35,7 +35,7 @@ returns-2 : tie.Need-returns-2
 returns-2 c =
     let printed = c .before .before in
     let chosen = printed .before .before .before .before in
-    let parted = chosen .before .before .read .ensures .parted (accepted chosen) in
+    let parted = chosen .before .before .read .ensures .split (accepted chosen) in
     let cut = parts chosen in
     rw (file-goes-on _ (accepted chosen))
     (rw (cut .circuit, cut .assignment, parted .blinders, parted .point) at (printed .print-job .ensures))

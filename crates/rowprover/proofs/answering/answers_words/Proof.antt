@@ -20,7 +20,7 @@ accepted : (c : tie.Else1) → Accepted (fileVerdict (c .before .before .before 
 accepted c = is-accepted (c .before .before .before .read .ensures .number-and-place) (c .if1 .left)
 
 parts : (c : tie.Else1) → Lent (c .before .before .before .before .before .before .args .words .now) (c .before .before .before .read .result)
-parts c = let all = accepted c in lent all (c .before .before .before .read .ensures .parted all)
+parts c = let all = accepted c in lent all (c .before .before .before .read .ensures .split all)
 
 sized : (c : tie.Else2) → Accepted (lengthVerdict (length (c .before .before .before .before .before .before .before .before .before .args .out .now)) answersBytes)
 sized c = is-accepted (c .before .before .length-verdict .ensures) (c .if2 .left)
@@ -43,7 +43,7 @@ requires c κs =
     let past = sizing .before .before .before in
     let l = parts past in
     let all = accepted past in
-    let p = past .before .before .before .read .ensures .parted all in
+    let p = past .before .before .before .read .ensures .split all in
     rw (l .circuit, l .assignment, p .blinders, p .point) (file-answers-ready _ all, file-ready _ all .point, exact-length _ answersBytes (sized sizing))
 
 returns-3 : tie.Need-returns-3
@@ -54,7 +54,7 @@ returns-3 c =
     let past = sizing .before .before .before in
     let l = parts past in
     let all = accepted past in
-    let p = past .before .before .before .read .ensures .parted all in
+    let p = past .before .before .before .read .ensures .split all in
     rw (goes-on _ all, goes-on _ (sized sizing)) (rw (l .circuit, l .assignment, p .blinders, p .point) at (found .answers-of .ensures))
 
 pub answers-words-spec : {M : Type 1} → statement M
