@@ -38,12 +38,12 @@ loop-holds c =
 row-sums-requires : tie.Need-row-sums-requires Inv-loop μ-loop
 row-sums-requires c κs =
     let known = c .before .before .loop .inv in
-    (known .2, omega arith, known .3, known .1)
+    (record { circuit = known .2; of-three = omega arith; size = known .1 }, known .3)
 
 row-sums-requires-2 : tie.Need-row-sums-requires-2 Inv-loop μ-loop
 row-sums-requires-2 c κs =
     let known = c .before .before .before .before .before .before .before .before .loop .inv in
-    (known .2, omega arith, known .4, search needs)
+    (record { circuit = known .2; of-three = omega arith; size = search needs }, known .4)
 
 pub parts-spec : {M : Type 1} → statement M
 parts-spec = tie.close
