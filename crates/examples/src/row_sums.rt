@@ -4,6 +4,7 @@ ghost use lib.ListN.{length};
 ghost use Rattle.outcome.specs.Verdict.{Accepted};
 ghost use Rattle.circuit.specs.Circuit.{rows};
 ghost use Rattle.assignment.specs.Assignment.{circuitThenAssignment};
+ghost use Rattle.field.specs.Field.{p};
 use crate::printing::heading;
 use crate::printing::line;
 use crate::printing::outcome_line;
@@ -13,7 +14,7 @@ use field::MINUS_ONE;
 
 // The verdict, and the sums of A, B and C over all columns.
 fn whole(circuit: &[u32], values: &[u32], a: &mut [u32], b: &mut [u32], c: &mut [u32])
-    requires { ⌜ Accepted (circuitThenAssignment (now circuit) (now values)) ⌝ }
+    requires { ⌜ Accepted (circuitThenAssignment p (now circuit) (now values)) ⌝ }
     requires { ⌜ (length (now a) ≡ rows (now circuit)) × (length (now b) ≡ rows (now circuit)) × (length (now c) ≡ rows (now circuit)) ⌝ }
 {
     outcome_line(rows::rows_verdict(circuit, values, a, b, c));
@@ -24,7 +25,7 @@ fn whole(circuit: &[u32], values: &[u32], a: &mut [u32], b: &mut [u32], c: &mut 
 
 // Of A, B and C the sums over the public columns, from the public section alone, and over the private ones.
 fn parts(circuit: &[u32], values: &[u32], sums: &mut [u32])
-    requires { ⌜ Accepted (circuitThenAssignment (now circuit) (now values)) × (length (now sums) ≡ rows (now circuit)) ⌝ }
+    requires { ⌜ Accepted (circuitThenAssignment p (now circuit) (now values)) × (length (now sums) ≡ rows (now circuit)) ⌝ }
 {
     let q = circuit::counts::publics_of(circuit);
     let n = circuit::counts::columns_of(circuit);

@@ -10,28 +10,30 @@ use Rattle.assignment.proofs.Accepted.{both-formed, public-formed}
 use Rattle.assignment.proofs.Assigned.{section-accepted}
 use Rattle.rows.specs.Sums.{Span}
 use Rattle.rows.proofs.Parts.{span-public, span-private}
+use Rattle.field.specs.Field.{p}
+use Rattle.field.proofs.PrimeField.{field-prime}
 use Rattle.examples.proofs.row_sums.parts.Statement.{statement}
 use Rattle.examples.proofs.row_sums.parts.Tie as tie
 
 abbrev Inv-loop : tie.InvT-loop
 Inv-loop circuit values sums₀ q n public matrix₀ sums matrix =
-    (matrix ≤ 3) × (length sums ≡ rows circuit) × Formed circuit × Span circuit public 0 q × Span circuit values q n
+    (matrix ≤ 3) × (length sums ≡ rows circuit) × Formed p circuit × Span circuit public 0 q × Span circuit values q n
 
 abbrev μ-loop : tie.MeasureT-loop
 μ-loop circuit values sums₀ q n public matrix₀ sums matrix = 3 - matrix
 
 publics-of-requires : tie.Need-publics-of-requires Inv-loop μ-loop
-publics-of-requires c κs = both-formed _ _ (c .before .before .before .pre .0) .0 .formed .counts
+publics-of-requires c κs = both-formed field-prime _ _ (c .before .before .before .pre .0) .0 .formed .counts
 
 columns-of-requires : tie.Need-columns-of-requires Inv-loop μ-loop
-columns-of-requires c κs = both-formed _ _ (c .before .before .before .before .pre .0) .0 .formed .counts
+columns-of-requires c κs = both-formed field-prime _ _ (c .before .before .before .before .pre .0) .0 .formed .counts
 
 loop-holds : tie.Need-loop-holds Inv-loop μ-loop
 loop-holds c =
     let start = c .before .before .before .before .before .before in
-    let both = both-formed _ _ (start .pre .0) in
+    let both = both-formed field-prime _ _ (start .pre .0) in
     let formed = both .0 .formed in
-    let public = public-formed _ _ (section-accepted _ _ (start .pre .0)) in
+    let public = public-formed field-prime _ _ (section-accepted field-prime _ _ (start .pre .0)) in
     rw (c .before .before .publics-of .ensures, c .before .columns-of .ensures, c .public-section .ensures)
     (search needs, start .pre .1, formed, span-public formed public, span-private formed (both .1))
 

@@ -3,11 +3,12 @@ use Rattle.outcome.specs.Verdict.{Accepted}
 use Rattle.outcome.proofs.Verdict.{is-accepted}
 use Rattle.assignment.specs.Assignment.{circuitThenAssignment}
 use borrow.Author.Needs.{needs}
+use Rattle.field.specs.Field.{p}
 use Rattle.examples.proofs.row_sums.sums.Statement.{statement}
 use Rattle.examples.proofs.row_sums.sums.Tie as tie
 
 accepted : (c : tie.Else1) → let args = c .before .before .before .before .before .before .before .before .args in
-    Accepted (circuitThenAssignment (args .circuit .now) (args .values .now))
+    Accepted (circuitThenAssignment p (args .circuit .now) (args .values .now))
 accepted c = is-accepted (c .before .before .assignment-verdict .ensures) (c .if1 .left)
 
 whole-requires : tie.Need-whole-requires
