@@ -1,2 +1,3 @@
 pub mod FileLaws
 pub mod Places
+pub mod Proper

@@ -4,9 +4,10 @@ use mathlib.Core.List.{List}
 use mathlib.Core.Logic.{⊎-elim}
 use mathlib.Core.Path.{_≡_, sym, _∙_, ap}
 use Prim.Native.Nat.{ℕ}
+use lib.ListN.{length}
 use Rattle.outcome.specs.declared.Outcome.{Outcome}
 use Rattle.outcome.specs.Verdict.{Accepted, Refused, fine}
-use Rattle.outcome.proofs.Verdict.{accepted-or-refused, accepted-parts, not-both}
+use Rattle.outcome.proofs.Verdict.{accepted-or-refused, accepted-parts, not-both, Proper, proper-andThen}
 use Rattle.packing.specs.Packing.{unpacked}
 use Rattle.text.proofs.TextLaws.{same-bytes}
 use Rattle.qap.specs.declared.Blinders.{Blinders}
@@ -22,6 +23,8 @@ use Rattle.qap.proofs.Standard.{sound}
 use Rattle.job_file.specs.File.{jobVerdict}
 use Rattle.job_file.proofs.FileLaws.{job-answers}
 use Rattle.qap.specs.Setting.{standard}
+use Rattle.job_file.proofs.Proper.{proper-size, proper-job}
+use Rattle.printed_job.specs.Promises.{PrintPromises}
 use Rattle.printed_job.specs.Lines.{programVerdict, FiveOf, FiveLines, Prints}
 use Rattle.printed_job.specs.TextUpTo.{TextUpTo, blank}
 
@@ -59,3 +62,16 @@ run-determined b w v = same-bytes (w .within) (v .within) (printed-determined b 
 -- the last of the five lines says 0
 pub check-number : (w : List ℕ) {t : List ℕ} → Accepted (jobVerdict w) → (x : FiveLines w t) → x .check .number ≡ 0
 check-number w h x = five-check (job-answers w h) x
+
+pub proper-program : (b : List ℕ) → Proper (programVerdict b)
+unfolding programVerdict
+proper-program b = proper-andThen (proper-size (length b)) (proper-job (unpacked b))
+
+pub print-promises : PrintPromises
+unfolding programVerdict
+print-promises = record {
+  one-text = λ b x y. printed-determined b x y;
+  one-run = λ b w v. run-determined b w v;
+  accepted-zero = λ b h. proper-program b .fine-if-accepted h;
+  last-line-zero = λ b h five. check-number (unpacked b) (accepted-parts h .1) five;
+}

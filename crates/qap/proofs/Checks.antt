@@ -3,8 +3,9 @@
 use mathlib.Core.Path.{_≡_, sym, _∙_, ap}
 use mathlib.Core.List.{List}
 use mathlib.Core.Logic.{⊎-elim}
-use Prim.Native.Nat.{ℕ, zero, suc, _+_, _<_}
+use Prim.Native.Nat.{ℕ, zero, suc, _+_, _*_, _%_, _<_}
 use native.Mathlib.Nat.{mod-lt}
+use native.Mathlib.Decide.{ℕ-discrete}
 use native.Mathlib.Omega.{arith}
 use lib.Dec.{lit<}
 use lib.ListN.{length, getD, take}
@@ -12,7 +13,7 @@ use lib.Seq.{ext-getD}
 use Rattle.outcome.specs.declared.Outcome.{Outcome}
 use Rattle.outcome.specs.Verdict.{Accepted, Refused, fine}
 use Rattle.outcome.proofs.Verdict.{accepted-fine, accepted-both, accepted-or-refused, not-both, accepted-new}
-use Rattle.algebra.specs.Polynomial.{Words}
+use Rattle.algebra.specs.Polynomial.{Words, value}
 use Rattle.circuit.specs.Circuit.{publics}
 use Rattle.circuit.proofs.Formed.{circuit-formed}
 use Rattle.assignment.specs.Assignment.{circuitThenAssignment, publicSection}
@@ -22,21 +23,22 @@ use Rattle.rows.specs.Rows.{rowsVerdict}
 use Rattle.rows.proofs.Holds.{accepted-holds, holds-accepted}
 use Rattle.circuit.specs.WellFormed.{Formed}
 use Rattle.qap.specs.Setting.{Setting, Sound}
-use Rattle.qap.specs.Polynomials.{quotientLength, IsQuotient}
+use Rattle.qap.specs.Polynomials.{targetOf, quotientLength, IsQuotient}
 use Rattle.qap.specs.Answers.{IsAnswers, AnswersAgree, CandidateDivides}
 use Rattle.qap.specs.Refusals.{answerWords, checkAnswersVerdict, checkDivisionVerdict}
 use Rattle.qap.specs.Calls.{AnswersCall, CheckAnswersCall, CheckDivisionCall}
 use Rattle.qap.specs.Demands.{SamePublic}
 use Rattle.qap.specs.declared.Blinders.{Blinders}
 use Rattle.qap.specs.declared.FourAnswers.{FourAnswers}
-use Rattle.qap.proofs.Settings.{p-positive, AnswersReady, answers-ready, DivisionReady, division-ready}
+use Rattle.qap.proofs.Settings.{p-positive, AnswersReady, answers-ready, check-ready, DivisionReady, division-ready}
+use Rattle.qap.proofs.Parts.{part-exists, part-unique}
 use Rattle.qap.proofs.Quotients.{quotient-holds, quotient-exists, quotient-unique, candidate-quotient, quotient-candidate}
 use Rattle.qap.proofs.Determined.{stable}
 use Rattle.qap.proofs.AnswerLaws.{public-same, answers-agree}
 
 module _ {S : Setting} (sound : Sound S) where
   -- what the answers call gives are field words
-  answer-words : {c a : List ℕ} {d : Blinders} {s : ℕ} {r : FourAnswers} → IsAnswers S c a d s r → Words (S .p) (answerWords r)
+  pub answer-words : {c a : List ℕ} {d : Blinders} {s : ℕ} {r : FourAnswers} → IsAnswers S c a d s r → Words (S .p) (answerWords r)
   answer-words {r = r} h = record { below = each }
     where
       each : (i : ℕ) → i < 4 → getD (answerWords r) i 0 < S .p
@@ -87,6 +89,38 @@ module _ {S : Setting} (sound : Sound S) where
     -- the tablet accepts what the box answers
     pub tablet-accepts : {o : Outcome} → CheckAnswersCall S c (publicSection (S .p) c a) s r o → o ≡ fine
     tablet-accepts check = check .accepts section-accepts section-agrees
+
+  -- what the answer check accepts satisfies its equality: parts are there, and two words are equal or not
+  pub passed-agrees : (c b : List ℕ) (s : ℕ) (r : FourAnswers) → CheckAnswersCall S c b s r fine → AnswersAgree S c b s r
+  passed-agrees c b s r call =
+      let accepted = ⊎-elim (λ good. good)
+      (λ (bad : Refused (checkAnswersVerdict S c b s r)). absurd (not-both (rw (sym (call .refused bad)) accepted-fine) bad))
+      (accepted-or-refused (checkAnswersVerdict S c b s r)) in
+      let formed = circuit-formed c (check-ready S c b s r accepted .circuit) .formed in
+      let (A, public-A) = part-exists sound formed b 0 0 (publics c) in
+      let (B, public-B) = part-exists sound formed b 1 0 (publics c) in
+      let (C, public-C) = part-exists sound formed b 2 0 (publics c) in
+      let left = (r .first + value A s) * (r .second + value B s) in
+      let right = (r .third + value C s) + value (targetOf S c) s * r .fourth in
+      elim (ℕ-discrete (left % S .p) (right % S .p)) [
+        | yes e ↦ record {
+          A = A;
+          B = B;
+          C = C;
+          public-A = public-A;
+          public-B = public-B;
+          public-C = public-C;
+          equal = record { same = e };
+        }
+        | no differ ↦ absurd (
+            let unequal : AnswersAgree S c b s r → ⊥ = λ agree.
+            let same-A = part-unique sound formed (agree .public-A) public-A in
+            let same-B = part-unique sound formed (agree .public-B) public-B in
+            let same-C = part-unique sound formed (agree .public-C) public-C in
+            differ (rw (same-A, same-B, same-C) at (agree .equal) .same) in
+            let contrary : _≡_ {A = ℕ} 0 13 = ap (λ (x : Outcome). x .number) (call .rejects accepted unequal) in
+            omega arith)
+      ]
 
   module _ (c a : List ℕ) (d : Blinders) (h : List ℕ) (accepted : Accepted (checkDivisionVerdict S c a d h)) {o : Outcome}
       (call : CheckDivisionCall S c a d h o) where

@@ -30,7 +30,7 @@ use Rattle.qap.proofs.Standard.{sound}
 use Rattle.qap.proofs.Quotients.{quotient-holds, candidate-quotient}
 use Rattle.qap.proofs.Given.{holds-given, given-holds, fails-named}
 use Rattle.qap.proofs.Demand2.{quotient-formula, quotient-unblinded}
-use Rattle.qap.proofs.Checks.{tablet-accepts, quotient-accepted, accepted-quotient}
+use Rattle.qap.proofs.Checks.{passed-agrees, tablet-accepts, quotient-accepted, accepted-quotient}
 use Rattle.qap.proofs.Columns.{column-determined, columns-determined}
 use Rattle.qap.proofs.OneResult.{target-determined, quotient-determined, answers-determined, check-answers-determined, check-division-determined}
 use Rattle.qap.proofs.Demand3Calls.{calls-answered, calls-any-three, calls-only-fourth, calls-fourth, calls-same}
@@ -109,7 +109,10 @@ module _ {S : Setting} (sound : Sound S) where
     }
 
   pub box-and-tablet : TabletAccepts S
-  box-and-tablet = record { box-and-tablet = λ {c} {a} {d} {s} {r} call check. tablet-accepts sound c a d s r call check }
+  box-and-tablet = record {
+    passed-agrees = λ {c} {b} {s} {r} call. passed-agrees sound c b s r call;
+    box-and-tablet = λ {c} {a} {d} {s} {r} call check. tablet-accepts sound c a d s r call check;
+  }
 
   pub tells-nothing : (c a : List ℕ) (s : ℕ) → Satisfied S c a s → TellsNothing S c a s
   tells-nothing c a s given = record {

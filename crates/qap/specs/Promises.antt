@@ -13,7 +13,7 @@ use Rattle.assignment.specs.Assignment.{publicSection}
 use Rattle.rows.specs.Rows.{RowsHold, FailsFirst}
 use Rattle.qap.specs.Setting.{Setting, pointsOf}
 use Rattle.qap.specs.Polynomials.{Column, blinderA, blinderB, blinderC, blinderWords, quotientLength, IsQuotient}
-use Rattle.qap.specs.Answers.{IsAnswers}
+use Rattle.qap.specs.Answers.{IsAnswers, AnswersAgree}
 use Rattle.qap.specs.Refusals.{targetVerdict, columnVerdict, columnsVerdict, readyVerdict, quotientVerdict, answersVerdict, checkAnswersVerdict, checkDivisionVerdict}
 use Rattle.qap.specs.Calls.{noAnswers, AllColumns, TargetCall, ColumnCall, ColumnsCall, QuotientCall, AnswersCall, CheckAnswersCall, CheckDivisionCall}
 use Rattle.qap.specs.Demands.{Exactly, IsFourth, SamePublic, Satisfied, Gives, GivesThree}
@@ -82,8 +82,9 @@ pub record DivisionChecked (S : Setting) (c a : List ℕ) (d : Blinders) : Type 
   pub broken-false : {h : List ℕ} {o : Outcome} → CheckDivisionCall S c a d h o → (RowsHold (S .p) c a → ⊥) → length h ≡ quotientLength S c →
       Words (S .p) h → o ≡ outcome 13 0
 
--- The box's four numbers always pass the tablet's check, beside the public section that is handed out.
+-- The box's four numbers always pass the tablet's check, beside the public section that is handed out; and what passes satisfies the equality.
 pub record TabletAccepts (S : Setting) : Type 0 where
+  pub passed-agrees : {c b : List ℕ} {s : ℕ} {r : FourAnswers} → CheckAnswersCall S c b s r fine → AnswersAgree S c b s r
   pub box-and-tablet : {c a : List ℕ} {d : Blinders} {s : ℕ} {r : FourAnswers} {o : Outcome} → AnswersCall S c a d s fine r →
       CheckAnswersCall S c (publicSection (S .p) c a) s r o → o ≡ fine
 
