@@ -55,6 +55,7 @@ pub ≈-words : {p a b : ℕ} → a ≈⟨ p ⟩ b → a < p → b < p → a ≡
 ≈-words h ha hb = sym (mod-eq_of_lt ha) ∙ h.same ∙ mod-eq_of_lt hb
 
 pub ≈-negative : {p : ℕ} → 0 < p → (a : ℕ) → negative p a + a ≈⟨ p ⟩ 0
+≈-negative {p = zero} h a = elim h [ ]
 ≈-negative {p = suc n} h a =
     let e : suc n - 1 ≡ n = omega arith in
     by (≈-whole (suc n) 0 a) (omega (arith, ap (λ (x : ℕ). x * a) e))

@@ -37,8 +37,8 @@ same_polynomial_lem p f g t = record { coefficient = coefficients p f g t }
 abbrev pub all_words : ℕ → List ℕ → Bool
 all_words p f = every (λ i a. ltb a p) f
 
-pub all_words : (p : ℕ) (f : List ℕ) → T (all_words p f) → Words p f
-all_words p f t = record { below = λ i l. ltb→lt (get_or f i 0) p (at (λ i a. ltb a p) f t i l) }
+pub all_words_lem : (p : ℕ) (f : List ℕ) → T (all_words p f) → Words p f
+all_words_lem p f t = record { below = λ i l. ltb→lt (get_or f i 0) p (at (λ i a. ltb a p) f t i l) }
 
 abbrev pub takes_all : ℕ → List ℕ → (ℕ → ℕ) → List ℕ → Bool
 takes_all p xs y f = every (λ i x. congruent p (value f x) (y i)) xs
@@ -47,6 +47,6 @@ pub through-values : (p : ℕ) (xs : List ℕ) (y : ℕ → ℕ) (f : List ℕ) 
     Through p xs y f
 through-values p xs y f size words takes = record {
   size = size;
-  words = all_words p f words;
+  words = all_words_lem p f words;
   takes = λ i l. congruent_numbers p (value f (get_or xs i 0)) (y i) (at (λ i x. congruent p (value f x) (y i)) xs takes i l);
 }

@@ -1,1 +1,2 @@
 // Mathematics without code: what the other crates' contracts and proofs cite stands in specs/ and proofs/.
+#![tactic(auto)]

@@ -1,4 +1,5 @@
 // The four answers to a query (RULES 5). The call asks nothing of its input.
+#![tactic(auto)]
 ghost use Rattle.std.specs.Prelude.{◌≡◌};
 ghost use Rattle.outcome.specs.Verdict.{Accepted};
 ghost use Rattle.field.specs.Field.{p};

@@ -1,5 +1,6 @@
 // Values at a point without a polynomial (RULES 5): a part of a matrix as row sums times basis values, three
 // parts with their blinders, and the quotient's value.
+#![tactic(auto)]
 ghost use Rattle.std.specs.Prelude.{◌≡◌, length};
 ghost use Rattle.algebra.specs.Congruence.{◌≈⟨◌⟩◌};
 ghost use Rattle.field.specs.Field.{p};

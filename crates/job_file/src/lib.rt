@@ -1,4 +1,5 @@
 // Reads a job file's words: which number and place they get, and where circuit and assignment end (RULES 7).
+#![tactic(auto)]
 ghost use Rattle.std.specs.Prelude.{◌≡◌, length};
 ghost use Rattle.circuit.specs.WellFormed.{Formed};
 ghost use Rattle.field.specs.Field.{p};

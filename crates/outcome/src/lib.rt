@@ -1,5 +1,7 @@
 // What a call gives back: a number and a place (RULES 6), and the functions that make one, named as
 // their definitions are.
+#![tactic(auto)]
+
 ghost use Rattle.std.specs.Prelude.{◌≡◌};
 ghost use Rattle.outcome.specs.Verdict.{◌and_then◌};
 

@@ -14,7 +14,7 @@ use Rattle.algebra.specs.Points.{consecutive, target, among}
 use Rattle.algebra.specs.Combination.{total}
 use Rattle.algebra.specs.Blinding.{blinded}
 use Rattle.algebra.proofs.Interpolation.{interpolation_unique}
-use Rattle.algebra.proofs.Tests.{all_words, takes_all, same_polynomial, all_words, through-values, same_polynomial_lem}
+use Rattle.algebra.proofs.Tests.{all_words, all_words_lem, takes_all, same_polynomial, through-values, same_polynomial_lem}
 use Rattle.field.specs.Field.{p}
 use Rattle.circuit.specs.Circuit.{rows, section, listed, coef}
 use Rattle.circuit.specs.WellFormed.{Formed}
@@ -88,7 +88,7 @@ quotient c a d A B C h whole_a whole_b whole_c size words equal = record {
   whole_c = whole_c;
   quotient = record {
     size = size;
-    words = all_words p h words;
+    words = all_words_lem p h words;
     divides = record { equal = same_polynomial_lem p _ _ equal };
   };
 }
@@ -146,7 +146,7 @@ only-column formed matrix j f g = interpolation_unique sound.field.prime (distin
 not_e : CandidateDivides standard K readings (blinders 1 2 3) (8 ∷ 8 ∷ 3 ∷ []) → ⊥
 unfolding K rows consecutive
 not_e divides =
-    let right = candidate-quotient sound formed_k readings (blinders 1 2 3) refl (all_words p (8 ∷ 8 ∷ 3 ∷ []) tt) divides in
+    let right = candidate-quotient sound formed_k readings (blinders 1 2 3) refl (all_words_lem p (8 ∷ 8 ∷ 3 ∷ []) tt) divides in
     let same = quotient_unique sound formed_k readings (blinders 1 2 3) right right_e in
     let last : ◌≡◌ {A = ℕ} 3 2 = ap (λ (f : List ℕ). get_or f 2 0) same in
     omega arith

@@ -1,4 +1,5 @@
 // The calls of the rules over circuits, assignments and points.
+#![tactic(auto)]
 
 // d1, d2, d3
 #[derive(Drop)]

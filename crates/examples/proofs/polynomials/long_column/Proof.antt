@@ -2,12 +2,12 @@
 use borrow.Author.Rules.{rules}
 use lib.ListN.{set, replicate}
 use Rattle.field.specs.Field.{p}
-use Rattle.algebra.proofs.Tests.{all_words}
+use Rattle.algebra.proofs.Tests.{all_words_lem}
 use Rattle.examples.proofs.polynomials.long_column.Statement.{statement}
 use Rattle.examples.proofs.polynomials.long_column.Tie as tie
 
 interpolate-requires : tie.Need-interpolate-requires
-interpolate-requires c κs = (search rules, all_words p (set (replicate 256 0) 255 1) tt, search rules)
+interpolate-requires c κs = (search rules, all_words_lem p (set (replicate 256 0) 255 1) tt, search rules)
 
 pub long_column_spec : {M : Type 1} → statement M
 long_column_spec = tie.close
