@@ -1,5 +1,6 @@
 // The four answers to a query (RULES 5). The call asks nothing of its input.
 #![tactic(auto)]
+
 ghost use Rattle.std.specs.Prelude.{◌≡◌};
 ghost use Rattle.outcome.specs.Verdict.{Accepted};
 ghost use Rattle.field.specs.Field.{p};
@@ -14,7 +15,7 @@ use outcome::Outcome;
 use qap::{Blinders, FourAnswers};
 
 // What the answers call gives back: number and place, and the four answers, all 0 where the number is not 0.
-#[derive(Drop)]
+#[derive(Clone, Copy)]
 pub struct Answered {
     pub outcome: Outcome,
     pub numbers: FourAnswers,

@@ -1,5 +1,6 @@
 // Assignments and public sections: numbers 6 and 7 of the table of RULES 6, and the public section handed out.
 #![tactic(auto)]
+
 ghost use Rattle.std.specs.Prelude.{◌≡◌, ◌≤◌, ◌<◌, length};
 ghost use Rattle.circuit.specs.WellFormed.{Formed};
 ghost use Rattle.field.specs.Field.{p};

@@ -2,6 +2,7 @@
 // the basis weights, the basis values with the target's value, the sum of given values times basis values; and with the same weights
 // a column (RULES 4) from values most of which are 0.
 #![tactic(auto)]
+
 ghost use Rattle.std.specs.Prelude.{◌≡◌, ◌*◌, ◌%◌, ◌≤◌, ◌<◌, length, get_or};
 ghost use Rattle.algebra.specs.Congruence.{Inverse};
 ghost use Rattle.algebra.specs.Polynomial.{Words};

@@ -1,6 +1,7 @@
 // The polynomial loops under plain names, for the benchmark to link and to time beside the same loops in Rust.
 // Each passes its arguments on; what a loop requires, the benchmark's inputs meet.
 #![tactic(auto)]
+
 ghost use Rattle.std.specs.Prelude.{◌≡◌, ◌+◌, ◌-◌, ◌%◌, ◌<◌, ◌≤◌, length, get_or};
 ghost use Rattle.algebra.specs.Polynomial.{Words, value, divided, product, reduced};
 ghost use Rattle.algebra.specs.Points.{row_points, target, Through};

@@ -1,6 +1,7 @@
 // One column and all columns of a matrix (RULES 4). No call asks anything of its input; refused, it changes no
 // word lent to it.
 #![tactic(auto)]
+
 ghost use Rattle.qap.specs.Calls.{ColumnCall, ColumnsCall};
 ghost use Rattle.qap.specs.Setting.{standard};
 

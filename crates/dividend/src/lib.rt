@@ -1,6 +1,7 @@
 // The dividend A'B' − C' (RULES 4), kept whole: A' = A + d Z from the row sums of A, and likewise B' and C'. And its
 // quotient by Z.
 #![tactic(auto)]
+
 ghost use Rattle.std.specs.Prelude.{[], ◌∷◌, ◌≡◌, ◌+◌, ◌<◌, length, drop, take, get_or};
 ghost use Rattle.algebra.specs.Polynomial.{Words};
 ghost use Rattle.algebra.specs.Points.{row_points};

@@ -1,5 +1,6 @@
 // The division check (RULES 5). It asks nothing of its input; 13 is an equality that is false.
 #![tactic(auto)]
+
 ghost use Rattle.std.specs.Prelude.{◌≡◌, length};
 ghost use Rattle.outcome.specs.Verdict.{Accepted};
 ghost use Rattle.qap.specs.declared.Blinders.{Blinders};

@@ -1,6 +1,7 @@
 // Values at a point without a polynomial (RULES 5): a part of a matrix as row sums times basis values, three
 // parts with their blinders, and the quotient's value.
 #![tactic(auto)]
+
 ghost use Rattle.std.specs.Prelude.{◌≡◌, length};
 ghost use Rattle.algebra.specs.Congruence.{◌≈⟨◌⟩◌};
 ghost use Rattle.field.specs.Field.{p};
@@ -13,7 +14,7 @@ ghost use Rattle.evaluation.specs.Values.{PartGiven, PartValue, PrivateParts, Wh
 use qap::Blinders;
 
 // Of A, B and C at a point.
-#[derive(Drop)]
+#[derive(Clone, Copy)]
 pub struct ThreeValues {
     pub first: u32,
     pub second: u32,

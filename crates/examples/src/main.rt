@@ -1,6 +1,7 @@
 // Worked examples of every layer and every call, run and compared with stored output: for each group a heading, then
 // its lines. A line has words in decimals with a space between; what a call said comes first, as number and place.
 #![tactic(auto)]
+
 mod assignments;
 mod basis_values;
 mod circuits;

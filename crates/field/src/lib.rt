@@ -1,6 +1,7 @@
 // Arithmetic in the field of p = 2013265921 elements (RULES 1).
 // Every operation takes any u32 words, also those that are not below p, and gives a word below p.
 #![tactic(auto)]
+
 ghost use Rattle.std.specs.Prelude.{◌≡◌, ◌+◌, ◌*◌, ◌%◌, ◌<◌};
 ghost use Rattle.algebra.specs.Congruence.{negative, Inverse};
 ghost use Rattle.field.specs.Field.{p, InverseOrZero};

@@ -1,6 +1,7 @@
 // The job program: a job file on standard input, its lines on standard output (RULES 7).
 // What is printed is decided by `printed_job::run`; where a read fails, nothing is.
 #![tactic(auto)]
+
 ghost use Rattle.std.specs.Prelude.{◌≤◌, length};
 
 use libc::{STDIN_FILENO, STDOUT_FILENO};

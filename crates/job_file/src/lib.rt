@@ -1,5 +1,6 @@
 // Reads a job file's words: which number and place they get, and where circuit and assignment end (RULES 7).
 #![tactic(auto)]
+
 ghost use Rattle.std.specs.Prelude.{◌≡◌, length};
 ghost use Rattle.circuit.specs.WellFormed.{Formed};
 ghost use Rattle.field.specs.Field.{p};
@@ -14,7 +15,7 @@ use qap::Blinders;
 use refusals::{blinders_verdict, point_verdict};
 
 // The words [..circuit] are the circuit, [circuit..assignment] the assignment.
-#[derive(Drop)]
+#[derive(Clone, Copy)]
 pub struct Job {
     pub outcome: Outcome,
     pub circuit: usize,

@@ -1,5 +1,6 @@
 // Words packed into bytes: each is 4 bytes, least significant first (RULES 2). And room for the words of a job.
 #![tactic(auto)]
+
 ghost use Rattle.std.specs.Prelude.{◌≡◌, [], ◌∷◌, ◌+◌, ◌*◌, ◌%◌, ◌≤◌, length};
 ghost use Rattle.std.proofs.lemmas.List.Edits.{sets};
 ghost use Rattle.slices.specs.Zeros.{zeros};

@@ -1,6 +1,7 @@
 // Polynomial loops on slices (RULES 4): a list of field words, power 0 first, lies in a slice.
 // Each kernel has one loop, and its contract names every word that the lent slices hold at the end.
 #![tactic(auto)]
+
 ghost use Rattle.std.specs.Prelude.{◌≡◌, ◌+◌, ◌-◌, ◌%◌, ◌≤◌, ◌<◌, length};
 ghost use Rattle.algebra.specs.Polynomial.{value, divided, product, reduced};
 ghost use Rattle.algebra.specs.Points.{consecutive, row_points, target};

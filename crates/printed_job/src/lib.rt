@@ -1,5 +1,6 @@
 // What the job program prints for the bytes of its file: RULES 7.
 #![tactic(auto)]
+
 ghost use Rattle.std.specs.Prelude.{[], ◌∷◌, ◌≡◌, ◌≤◌, length};
 ghost use Rattle.outcome.specs.Verdict.{Accepted};
 ghost use Rattle.text.specs.Text.{line};

@@ -2,7 +2,7 @@
 #![tactic(auto)]
 
 // d1, d2, d3
-#[derive(Drop)]
+#[derive(Clone, Copy)]
 pub struct Blinders {
     pub first: u32,
     pub second: u32,
@@ -10,7 +10,7 @@ pub struct Blinders {
 }
 
 // The four numbers that answer a query.
-#[derive(Drop)]
+#[derive(Clone, Copy)]
 pub struct FourAnswers {
     pub first: u32,
     pub second: u32,

@@ -1,5 +1,6 @@
 // The quotient that the box gives (RULES 4). The call asks nothing of its input; refused, it changes no word lent to it.
 #![tactic(auto)]
+
 ghost use Rattle.std.specs.Prelude.{◌≡◌, length};
 ghost use Rattle.outcome.specs.Verdict.{Accepted};
 ghost use Rattle.qap.specs.declared.Blinders.{Blinders};

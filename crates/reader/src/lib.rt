@@ -1,5 +1,6 @@
 // The circuit reader: for any words exactly one number and place, numbers 0 to 5 of the table of RULES 6.
 #![tactic(auto)]
+
 ghost use Rattle.std.specs.Prelude.{◌≡◌, ◌+◌, ◌≤◌, length};
 ghost use Rattle.outcome.specs.Verdict.{first_fault};
 ghost use Rattle.circuit.specs.Circuit.{section};

@@ -1,5 +1,6 @@
 // The refusals that calls share (RULES 6): 8, 10, 11, 12 and 13, each by its own definition.
 #![tactic(auto)]
+
 ghost use Rattle.std.specs.Prelude.{◌≡◌};
 ghost use Rattle.outcome.specs.Verdict;
 ghost use Rattle.circuit.specs.WellFormed.{Formed};

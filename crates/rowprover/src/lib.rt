@@ -1,5 +1,6 @@
 // The two functions that a host calls on bytes (RULES 8). Neither asks anything of its input.
 #![tactic(auto)]
+
 ghost use Rattle.std.specs.Prelude.{◌≡◌, ◌≤◌};
 ghost use Rattle.packing.specs.Packing.{job_words};
 ghost use Rattle.rowprover.specs.Exports.{AnswersExport, CheckExport};

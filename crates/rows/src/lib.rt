@@ -1,5 +1,6 @@
 // Row sums of a matrix in one pass over its listed entries, and the lowest failing row (RULES 6, number 10).
 #![tactic(auto)]
+
 ghost use Rattle.std.specs.Prelude.{◌≡◌, ◌+◌, ◌≤◌, length};
 ghost use Rattle.circuit.specs.Limits.{most_columns};
 ghost use Rattle.circuit.specs.Circuit.{rows, columns, entries, entry_at};

@@ -1,5 +1,6 @@
 // Loops over words that know nothing of what the words mean, and rooms to work in.
 #![tactic(auto)]
+
 ghost use Rattle.std.specs.Prelude.{◌≡◌, length};
 ghost use Rattle.slices.specs.Zeros.{zeros};
 

@@ -1,5 +1,6 @@
 // The target call (RULES 4): m alone. It asks nothing of its input; refused, it changes no word lent to it.
 #![tactic(auto)]
+
 ghost use Rattle.std.specs.Prelude.{◌≡◌, length};
 ghost use Rattle.outcome.specs.Verdict.{Accepted};
 ghost use Rattle.algebra.specs.Points.{row_points, target};

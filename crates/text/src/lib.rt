@@ -1,6 +1,7 @@
 // Numbers as lines of text: RULES 7. The text goes into lent bytes, from `at` on; a call gives the
 // index behind what it wrote, where the next call goes on.
 #![tactic(auto)]
+
 ghost use Rattle.std.specs.Prelude.{[], ◌∷◌, ◌++◌, ◌+◌, ◌≤◌, length};
 ghost use Rattle.text.specs.Text.{decimal, line, number_room, line_room, two_room, Appended};
 

@@ -1,0 +1,17 @@
+-- Invariant: the words from i on are done, those before i are the given ones, and after is the product over the points from number
+-- i on.
+use mathlib.Core.Path.{◌≡◌, sym}
+use mathlib.Core.List.{List, ◌++◌, append-nil}
+use Prim.Native.Nat.{ℕ, suc, ◌+◌, ◌*◌, ◌-◌, ◌%◌, ◌≤◌, ◌<◌}
+use lib.ListN.{length, take, drop, set, get_or, length-set}
+use Rattle.field.specs.Field.{p}
+use Rattle.basis.specs.Passes.{mapped, points_from, times_after}
+use Rattle.basis.proofs.times_after.Given as goal
+
+abbrev pub invariant-loop-i : goal.invariant-loop-i
+invariant-loop-i l =
+    (l.i ≤ length l.initial.out) × (length l.out ≡ length l.initial.out) × (l.after ≡ points_from p (length l.initial.out) l.s l.i % p) ×
+    (l.out ≡ take l.i l.initial.out ++ mapped (λ j a. a * points_from p (length l.initial.out) l.s (suc j) % p) l.i (drop l.i l.initial.out))
+
+abbrev pub decreases-loop-i : goal.decreases-loop-i
+decreases-loop-i l = l.i

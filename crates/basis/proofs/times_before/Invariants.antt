@@ -1,0 +1,17 @@
+-- Invariant: the words before i are done, those from i on are still to be multiplied, and before is the product over the points
+-- before number i.
+use mathlib.Core.Path.{◌≡◌, sym, ◌∙◌}
+use mathlib.Core.List.{List, ◌++◌, append-nil}
+use Prim.Native.Nat.{ℕ, suc, ◌+◌, ◌*◌, ◌-◌, ◌%◌, ◌≤◌, ◌<◌}
+use lib.ListN.{length, take, drop, set, get_or, length-set, drop_of_length-le}
+use Rattle.field.specs.Field.{p}
+use Rattle.basis.specs.Passes.{mapped, points_before, times_before}
+use Rattle.basis.proofs.times_before.Given as goal
+
+abbrev pub invariant-loop-i : goal.invariant-loop-i
+invariant-loop-i l =
+    (l.i ≤ length l.initial.out) × (length l.out ≡ length l.initial.out) × (l.before ≡ points_before p l.s l.i % p) ×
+    (take l.i l.out ++ mapped (λ j a. a * points_before p l.s j % p) l.i (drop l.i l.out) ≡ times_before p l.s l.initial.out)
+
+abbrev pub decreases-loop-i : goal.decreases-loop-i
+decreases-loop-i l = length l.initial.out - l.i

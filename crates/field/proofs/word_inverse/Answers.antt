@@ -1,0 +1,45 @@
+use mathlib.Core.Path.{◌≡◌, ap}
+use Prim.Native.Nat.{ℕ, ◌+◌, ◌*◌, ◌-◌, ◌/◌, ◌%◌, ◌<◌}
+use native.Mathlib.Nat.{mod-lt, mod-add-div', div-le_self}
+use native.Mathlib.Omega.{arith}
+use borrow.Author.Rules.{rules}
+use Rattle.algebra.specs.Congruence.{◌≈⟨◌⟩◌}
+use Rattle.algebra.proofs.Congruence.{≈-eq, ≈_sym, ≈-plus, ≈-times, ≈-whole, ≈-reduced, by}
+use Rattle.algebra.proofs.Inverse.{leaves}
+use Rattle.field.specs.Field.{p}
+use Rattle.field.proofs.PrimeField.{p_prime}
+use Rattle.field.proofs.word_inverse.Invariants.{Leaves}
+use Rattle.field.proofs.word_inverse.Goals as goal
+
+-- one turn: n is q rest + r, so the multiple n − q of rest leaves r
+turn : {n rest : ℕ} (a f : ℕ) → a * f ≈⟨ n ⟩ rest → a * (f * (n - n / rest) % n) ≈⟨ n ⟩ n % rest
+turn {n} {rest} a f h =
+    let m = n - n / rest in
+    let whole : m + n / rest ≡ n = omega (arith, div-le_self n rest) in
+    by (≈-plus (≈-plus (≈-times a (≈-reduced n (f * m))) (≈-times m h)) (≈-plus (≈-whole n 0 rest) (≈_sym (≈-whole n 0 1))))
+    (omega (arith, mod-add-div' n rest, ap (λ (x : ℕ). x * rest) whole))
+
+pub loop-rest-init : goal.loop-rest-init
+loop-rest-init c =
+    record { positive = search rules; below = search rules; word = search rules; leaves-rest = ≈-eq p (omega arith) }
+
+pub overflow_sub-rest : goal.overflow_sub-rest
+overflow_sub-rest c = div-le_self p c.loop-rest.rest
+
+pub loop-rest-smaller : goal.loop-rest-smaller
+loop-rest-smaller c = mod-lt p (omega arith)
+
+pub loop-rest-preserved : goal.loop-rest-preserved
+loop-rest-preserved c =
+    let now = c.loop-rest in
+    record {
+      positive = leaves p_prime now.rest (search rules) (search rules);
+      below = omega (arith, loop-rest-smaller c);
+      word = search rules;
+      leaves-rest = rw c.times-factor.ensures (turn _ now.factor now.invariant.leaves-rest);
+    }
+
+pub returns : goal.returns
+returns c =
+    let one : c.loop-rest.rest ≡ 1 = omega arith in
+    record { word = search rules; leaves-one = rw one at c.loop-rest.invariant.leaves-rest }

@@ -1,0 +1,41 @@
+-- The checks in their order; words that passed as a trailer are 6.
+use mathlib.Core.Path.{◌≡◌, ◌∙◌, ap}
+use native.Mathlib.Omega.{arith}
+use borrow.Author.Rules.{rules}
+use lib.ListN.{length}
+use Rattle.outcome.specs.Verdict.{◌and_then◌}
+use Rattle.outcome.proofs.Chain.{chained, called, called-refused}
+use Rattle.outcome.proofs.Verdict.{is_accepted, accepted-parts, and_then_assoc}
+use Rattle.assignment.specs.Assignment.{words_verdict, assignment_verdict}
+use Rattle.qap.specs.declared.Blinders.{Blinders}
+use Rattle.qap.specs.Polynomials.{blinder_words}
+use Rattle.field.specs.Field.{p}
+use Rattle.job_file.specs.File.{trailer_verdict}
+use Rattle.job_file.specs.Given.{given_verdict}
+use Rattle.job_file.proofs.FileLaws.{trailer-six}
+use Rattle.job_file.proofs.given_verdict.Goals as goal
+
+shaped : (c : After-and_then-shaped) →
+    let args = c.args in
+    c.and_then-shaped.result ≡ assignment_verdict p args.circuit.now args.values.now and_then trailer_verdict args.t.now
+shaped c = search chained depth 16
+
+six : (c : Else-shaped-ne0) → length c.args.t.now ≡ 6
+six c = trailer-six _ (accepted-parts (is_accepted (shaped c) c.if-shaped-ne0.false)).1
+
+pub returns-then-shaped-ne0 : goal.returns-then-shaped-ne0
+unfolding given_verdict
+returns-then-shaped-ne0 c = called-refused _ (shaped c) c.if-shaped-ne0.true ∙ and_then_assoc _ _ _
+
+pub returns : goal.returns
+unfolding given_verdict
+returns-then-shaped-ne0 c =
+    let read = c.before in
+    let words = c.blinders_verdict.ensures ∙ ap (λ (d : Blinders). words_verdict p 12 0 (blinder_words d)) c.blinders_in.ensures in
+    called (shaped read.before.before) read.if1.false (search chained depth 16) ∙ and_then_assoc _ _ _
+
+pub blinders_in-requires : goal.blinders_in-requires
+blinders_in-requires c = six c
+
+pub bounds-t-5 : goal.bounds-t-5
+bounds-t-5 c = omega (arith, six c)

@@ -1,0 +1,69 @@
+use mathlib.Core.Path.{◌≡◌, refl, sym, ap}
+use mathlib.Core.List.{List, [], ◌∷◌, ◌++◌, append-nil}
+use Prim.Native.Nat.{ℕ, zero, suc, ◌+◌, ◌*◌, ◌-◌, ◌≤◌, ◌<◌, ◌%◌}
+use native.Mathlib.Omega.{arith}
+use borrow.Author.Rules.{rules}
+use lib.ListN.{length, take, drop, get_or, length-set, drop_of_length-le}
+use lib.Seq.{drop-cons, drop-length, take-length}
+use Rattle.algebra.specs.Polynomial.{value, divided}
+use Rattle.algebra.proofs.Congruence.{≈_refl, ≈-reduced}
+use Rattle.field.specs.Field.{p}
+use Rattle.poly.specs.AddScaled.{scaled}
+use Rattle.poly.proofs.ScaledLaws.{scaled-nil}
+use Rattle.poly.proofs.Slices.{same_word, running, back_get, back-set}
+use Rattle.poly.proofs.add_divided.Goals as goal
+
+-- word j of the quotient by X − x
+drop-divided : (z : List ℕ) (x j : ℕ) → suc j < length z → drop j (divided x z) ≡ value (drop (suc j) z) x ∷ drop (suc j) (divided x z)
+unfolding divided
+drop-divided [] x j h = absurd (omega arith)
+drop-divided (a ∷ []) x j h = absurd (omega arith)
+drop-divided (a ∷ b ∷ z) x zero h = refl
+drop-divided (a ∷ b ∷ z) x (suc j) h = drop-divided (b ∷ z) x j (omega arith)
+
+step : (column z : List ℕ) (k x j : ℕ) {word v : ℕ} → suc j < length z → j < length column → word ≡ value (drop (suc j) z) x % p →
+    v ≡ (get_or column j 0 + k * word) % p →
+    v ∷ scaled p k (drop (suc j) (divided x z)) (drop (suc j) column) ≡ scaled p k (drop j (divided x z)) (drop j column)
+unfolding scaled
+step column z k x j hz hc e n =
+    rw (drop-cons column j 0, drop-divided z x j, n, e)
+    (ap (λ (w : ℕ). w ∷ scaled p k (drop (suc j) (divided x z)) (drop (suc j) column)) (same_word _ (≈_refl p k) (≈-reduced p _)))
+
+pub loop-i-init : goal.loop-i-init
+unfolding value
+loop-i-init c =
+    let args = c.args in
+    let column = args.column.now in (
+      search rules,
+      search rules,
+      rw (drop_of_length-le args.z.now {i = suc (length column)} (omega arith)),
+      sym (rw (drop-length column, scaled-nil p args.k _, append-nil (take (length column) column), take-length column)),
+    )
+
+pub loop-i-preserved : goal.loop-i-preserved
+loop-i-preserved c =
+    let now = c.loop-i in
+    let args = c.args in
+    let column = args.column.now in
+    let z = args.z.now in
+    let j = now.i - 1 in
+    let i-is : now.i ≡ suc j = omega arith in
+    let done = scaled p args.k (drop (suc j) (divided args.x z)) (drop (suc j) column) in
+    let so_far : now.column ≡ take (suc j) column ++ done = rw i-is at now.invariant.3 in
+    let here : j < length column = omega arith in
+    let word : c.add_scaled-word.result ≡ value (drop (suc j) z) args.x % p =
+    rw i-is at (running p z args.x now.i (omega arith) now.invariant.2 c.add_scaled-word.ensures) in
+    let written : c.add_scaled.result ≡ (get_or column j 0 + args.k * c.add_scaled-word.result) % p =
+    rw (so_far, back_get column j here done) at c.add_scaled.ensures in (
+      search rules,
+      simp length-set (search rules),
+      word,
+      rw (so_far, back-set column j here done _)
+          (ap (λ (r : List ℕ). take j column ++ r) (step column z args.k args.x j (omega arith) here word written)),
+    )
+
+pub returns : goal.returns
+returns c =
+    let now = c.loop-i in
+    let none : now.i ≡ 0 = omega arith in
+    rw none at now.invariant.3

@@ -1,0 +1,18 @@
+-- Invariant: the words from i on are done, the words before i are the given ones, and the running word is the value at x of
+-- the words of z after word i.
+use mathlib.Core.Path.{◌≡◌, refl, sym, ap}
+use mathlib.Core.List.{List, [], ◌∷◌, ◌++◌, append-nil}
+use Prim.Native.Nat.{ℕ, zero, suc, ◌+◌, ◌*◌, ◌-◌, ◌≤◌, ◌<◌, ◌%◌}
+use lib.ListN.{length, take, drop, get_or, length-set, drop_of_length-le}
+use Rattle.algebra.specs.Polynomial.{value, divided}
+use Rattle.field.specs.Field.{p}
+use Rattle.poly.specs.AddScaled.{scaled}
+use Rattle.poly.proofs.add_divided.Given as goal
+
+abbrev pub invariant-loop-i : goal.invariant-loop-i
+invariant-loop-i l =
+    (l.i ≤ length l.initial.column) × (length l.column ≡ length l.initial.column) × (l.word ≡ value (drop (suc l.i) l.z) l.x % p) ×
+    (l.column ≡ take l.i l.initial.column ++ scaled p l.k (drop l.i (divided l.x l.z)) (drop l.i l.initial.column))
+
+abbrev pub decreases-loop-i : goal.decreases-loop-i
+decreases-loop-i l = l.i

@@ -1,0 +1,16 @@
+-- Invariant: the words from i on are in powers, and the words before i are the given ones.
+use mathlib.Core.Path.{◌≡◌, sym, ◌∙◌, ap}
+use mathlib.Core.List.{List, ◌∷◌, ◌++◌}
+use Prim.Native.Nat.{ℕ, suc, ◌+◌, ◌-◌, ◌≤◌, ◌<◌}
+use lib.ListN.{length, take, drop, get_or, length-append, length-take, length-drop, take-append-drop}
+use Rattle.field.specs.Field.{p}
+use Rattle.algebra.specs.Points.{consecutive}
+use Rattle.poly.specs.Interpolation.{powers}
+use Rattle.poly.proofs.interpolation.expand_powers.Given as goal
+
+abbrev pub invariant-loop-i : goal.invariant-loop-i
+invariant-loop-i l =
+    (l.i ≤ length l.initial.v) × (length l.v ≡ length l.initial.v) × (l.v ≡ take l.i l.initial.v ++ powers p (consecutive (l.first + l.i) (length l.initial.v - l.i)) (drop l.i l.initial.v))
+
+abbrev pub decreases-loop-i : goal.decreases-loop-i
+decreases-loop-i l = l.i

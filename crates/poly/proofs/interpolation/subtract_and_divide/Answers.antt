@@ -1,0 +1,49 @@
+use mathlib.Core.Path.{◌≡◌, sym, ◌∙◌}
+use mathlib.Core.List.{List, ◌++◌, append-nil}
+use Prim.Native.Nat.{ℕ, ◌+◌, ◌*◌, ◌-◌, ◌≤◌, ◌<◌, ◌%◌}
+use native.Mathlib.Numerals.{add-one}
+use native.Mathlib.Omega.{arith}
+use borrow.Author.Rules.{rules}
+use lib.ListN.{length, take, drop, set, get_or, length-set, drop_of_length-le}
+use lib.Seq.{drop-cons, take_all}
+use Rattle.field.specs.Field.{p}
+use Rattle.poly.specs.Interpolation.{differences}
+use Rattle.slices.proofs.Front.{front-word, rest-kept}
+use Rattle.poly.proofs.Slices.{kept_word, kept-rest}
+use Rattle.poly.proofs.interpolation.subtract_and_divide.Goals as goal
+
+step : (t v : List ℕ) (y i : ℕ) {w : ℕ} → i < length t → i < length v → w ≡ (get_or v i 0 + (p - y)) * get_or t i 0 % p →
+    take (i + 1) (set v i w) ++ differences p (drop (i + 1) t) y (drop (i + 1) (set v i w)) ≡ take i v ++ differences p (drop i t) y (drop i v)
+unfolding differences
+step t v y i {w} ht hv e = rw (front-word v i w hv, rest-kept v i w hv, drop-cons t i 0, drop-cons v i 0, add-one, e)
+
+end : (t v : List ℕ) (y i : ℕ) → length v ≤ i → take i v ++ differences p (drop i t) y (drop i v) ≡ v
+unfolding differences
+end t v y i h = rw (drop_of_length-le v h, append-nil, take_all i v h)
+
+below : (c : In-loop-i) → get_or c.loop-i.v c.loop-i.i 0 < p
+below c =
+    let now = c.loop-i in
+    let given = c.args.v.now in
+    rw (kept_word now.v given now.i now.invariant.2 (omega arith) (omega arith)) (c.requires.2.below now.i (omega arith))
+
+pub overflow_add-v : goal.overflow_add-v
+overflow_add-v c = omega (arith, below c)
+
+pub loop-i-preserved : goal.loop-i-preserved
+loop-i-preserved c =
+    let now = c.loop-i in
+    let args = c.args in
+    let table = c.requires.3 in
+    let here : now.i < length now.v = omega arith in (
+      search rules,
+      simp length-set (search rules),
+      rest-kept now.v now.i _ here ∙ kept-rest now.v args.v.now now.i now.invariant.2,
+      step args.inverses.now now.v args.y now.i (omega (arith, table.entries)) here c.times.ensures ∙ now.invariant.3,
+    )
+
+pub returns : goal.returns
+returns c =
+    let now = c.loop-i in
+    let args = c.args in
+    sym (end args.inverses.now now.v args.y now.i (omega arith)) ∙ now.invariant.3

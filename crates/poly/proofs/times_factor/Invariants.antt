@@ -1,0 +1,16 @@
+-- Invariant: the words before i are done, and the words from i on are a list of the same kind.
+use mathlib.Core.Path.{◌≡◌, refl, sym, ◌∙◌, ap}
+use mathlib.Core.List.{List, [], ◌∷◌, ◌++◌}
+use Prim.Native.Nat.{ℕ, suc, ◌+◌, ◌*◌, ◌-◌, ◌≤◌, ◌<◌, ◌%◌}
+use lib.ListN.{length, take, drop, set, get_or, length-set, length-drop, take-append-drop}
+use Rattle.algebra.specs.Congruence.{◌≈⟨◌⟩◌, negative}
+use Rattle.field.specs.Field.{p}
+use Rattle.poly.specs.Factor.{times_factor}
+use Rattle.poly.proofs.times_factor.Given as goal
+
+abbrev pub invariant-loop-i : goal.invariant-loop-i
+invariant-loop-i l =
+    (l.i ≤ length l.f) × (length l.f ≡ length l.initial.f) × (take l.i l.f ++ times_factor p l.x (drop l.i l.f) ≡ times_factor p l.x l.initial.f)
+
+abbrev pub decreases-loop-i : goal.decreases-loop-i
+decreases-loop-i l = length l.initial.f - l.i

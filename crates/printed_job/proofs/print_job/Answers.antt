@@ -1,0 +1,21 @@
+-- Refused by the verdict, or the five lines.
+use borrow.Author.Rules.{rules}
+use Rattle.outcome.proofs.Verdict.{is_accepted}
+use Rattle.printed_job.proofs.LinesLaws.{reports-refused, reports-done}
+use Rattle.printed_job.proofs.print_job.Goals as goal
+
+pub returns-then-found-ne0 : goal.returns-then-found-ne0
+returns-then-found-ne0 c =
+    let chosen = c.before in
+    reports-refused _ chosen.before.before.answers.ensures.number_and_place chosen.if1.true c.refuse.ensures
+
+pub print_five-requires : goal.print_five-requires
+print_five-requires c =
+    let answered = c.answers-found.ensures in
+    let accepted = is_accepted answered.number_and_place c.if-found-ne0.false in
+    ((accepted, answered.done accepted), search rules)
+
+pub returns : goal.returns
+returns-then-found-ne0 c =
+    let chosen = c.before in
+    reports-done _ chosen.before.before.answers.ensures.number_and_place chosen.if1.false c.print_five.ensures

@@ -1,0 +1,12 @@
+-- The outcome's place is small.
+use borrow.Author.Rules.{rules}
+use Rattle.rowprover.proofs.Small.{near-answers}
+use Rattle.rowprover.proofs.rowprover_answers.Goals as goal
+
+pub integer-requires : goal.integer-requires
+integer-requires c = rw c.answers_bytes.ensures.number_and_place (near-answers _ _).near
+
+pub returns : goal.returns
+returns c =
+    let found = c.answers_bytes in
+    record { outcome = found.result; filled = found.ensures; returned = c.integer.ensures }

@@ -1,0 +1,67 @@
+-- Where the column is left out nothing changes; else its row's word gets the product added.
+use mathlib.Core.List.{List}
+use mathlib.Core.Path.{◌≡◌, sym}
+use Prim.Native.Nat.{ℕ, suc, ◌+◌, ◌*◌, ◌-◌, ◌%◌, ◌≤◌, ◌<◌}
+use native.Mathlib.Omega.{arith}
+use borrow.Author.Tests.{le-leb, lt-leb}
+use lib.ListN.{length, set}
+use Rattle.field.specs.Field.{p}
+use Rattle.circuit.specs.Circuit.{rows, word, row_of, column_of, value_of}
+use Rattle.assignment.specs.Assignment.{assigned}
+use Rattle.assignment.proofs.Assigned.{assigned_order}
+use Rattle.outcome.specs.Verdict.{Within}
+use Rattle.circuit.proofs.Rows.{row_inside}
+use Rattle.rows.specs.Sums.{with_entry}
+use borrow.Author.Rules.{rules}
+use Rattle.rows.proofs.add_entry.Goals as goal
+
+module _ (c : List ℕ) (s : ℕ) (a : List ℕ) (from to e : ℕ) (xs : List ℕ) where
+  too_low : column_of c s e ≤ from → with_entry p c s a from to e xs ≡ xs
+  unfolding with_entry
+  too_low h = rw (with_entry, lt-leb (suc from) (column_of c s e) (omega arith))
+
+  too_high : from < column_of c s e → to < column_of c s e → with_entry p c s a from to e xs ≡ xs
+  unfolding with_entry
+  too_high h k = rw (with_entry, le-leb (suc from) (column_of c s e) h, lt-leb (column_of c s e) to k)
+
+  counted : from < column_of c s e → column_of c s e ≤ to →
+      with_entry p c s a from to e xs
+      ≡ set xs (row_of c s e - 1) ((word xs (row_of c s e - 1) + assigned c a (column_of c s e) * value_of c s e) % p)
+  unfolding with_entry
+  counted h k = rw (with_entry, le-leb (suc from) (column_of c s e) h, le-leb (column_of c s e) to k)
+
+pub returns-then-column-from : goal.returns-then-column-from
+returns-then-column-from c = sym (too_low _ _ _ _ _ _ _ (search rules))
+
+pub returns-then-to-column : goal.returns-then-to-column
+returns-then-to-column c = sym (too_high _ _ _ _ _ _ _ (search rules) (search rules))
+
+-- the value's index is inside: its column is at most `to`
+inside : (c : After-assigned_at-value) → c.assigned_at-value.result < length c.args.values.now
+inside c =
+    let column = column_of c.args.circuit.now c.args.start c.args.e in
+    omega
+    (arith, c.assigned_at-value.ensures, assigned_order c.args.circuit.now column c.args.to (search rules), c.requires.1.0.given)
+
+-- and so is the row
+row : (c : After-assigned_at-value) →
+    Within 1 (row_of c.args.circuit.now c.args.start c.args.e) (rows c.args.circuit.now)
+row c = row_inside c.requires.0.1
+
+pub returns : goal.returns
+returns-then-column-from c =
+    rw (c.add_scaled.ensures, c.assigned_at-value.ensures)
+    (sym (counted c.args.circuit.now c.args.start c.args.values.now c.args.from c.args.to c.args.e
+    c.args.out.now (search rules) (search rules)))
+
+pub bounds-out-row : goal.bounds-out-row
+bounds-out-row c = let here = row c in search rules
+
+pub offset_bounds-values-value : goal.offset_bounds-values-value
+offset_bounds-values-value c = omega (arith, inside c)
+
+pub bounds-values-value : goal.bounds-values-value
+bounds-values-value c = inside c
+
+pub bounds-out-row-2 : goal.bounds-out-row-2
+bounds-out-row-2 c = let here = row c in search rules

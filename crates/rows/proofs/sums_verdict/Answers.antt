@@ -1,0 +1,42 @@
+use mathlib.Core.List.{List}
+use mathlib.Core.Path.{◌≡◌, ◌∙◌, ap}
+use Prim.Native.Nat.{ℕ, suc, ◌*◌, ◌-◌, ◌%◌}
+use native.Mathlib.Omega.{arith}
+use borrow.Author.Rules.{rules}
+use lib.Dec.{eqb, lit<}
+use lib.ListN.{length}
+use Rattle.outcome.specs.declared.Outcome.{Outcome}
+use Rattle.outcome.specs.Verdict.{require}
+use Rattle.outcome.proofs.Verdict.{is_accepted, is_refused, proper-require}
+use Rattle.outcome.proofs.Scan.{Passed, begin, go_on, stop, end}
+use Rattle.field.specs.Field.{p}
+use Rattle.circuit.specs.Circuit.{word}
+use Rattle.rows.specs.Sums.{sums_verdict}
+use Rattle.rows.proofs.sums_verdict.Invariants.{each, Rows}
+use Rattle.rows.proofs.sums_verdict.Goals as goal
+
+found : (c : After-require-found) →
+    let args = c.args in
+    c.require-found.result ≡ each args.a.now args.b.now args.c.now c.loop-i.i
+found c = c.require-found.ensures ∙ rw c.times.ensures (ap (require _ 10) (omega arith))
+
+pub returns-then-found-ne0 : goal.returns-then-found-ne0
+unfolding sums_verdict
+returns-then-found-ne0 c =
+    stop _ _ c.loop-i.invariant.passed (search rules) (is_refused (found c) c.if-found-ne0.true)
+    (found c)
+
+pub loop-i-preserved : goal.loop-i-preserved
+loop-i-preserved c =
+    record {
+      passed = go_on _ _ c.loop-i.invariant.passed (search rules)
+          (is_accepted (found c) c.if-found-ne0.false);
+    }
+
+pub returns : goal.returns
+unfolding sums_verdict
+returns-then-found-ne0 c =
+    c.fine.ensures ∙ end _ _ c.loop-i.invariant.passed c.loop-i-test.false (λ i l. proper-require _ _ _ (lit< tt))
+
+pub loop-i-init : goal.loop-i-init
+loop-i-init c = record { passed = begin _ _ }

@@ -1,0 +1,24 @@
+-- Invariant: the rows passed hold. So a row that fails is the lowest.
+use mathlib.Core.List.{List}
+use mathlib.Core.Path.{◌≡◌, ◌∙◌, ap}
+use Prim.Native.Nat.{ℕ, suc, ◌*◌, ◌-◌, ◌%◌}
+use lib.Dec.{eqb, lit<}
+use lib.ListN.{length}
+use Rattle.outcome.specs.declared.Outcome.{Outcome}
+use Rattle.outcome.specs.Verdict.{require}
+use Rattle.outcome.proofs.Scan.{Passed, begin, go_on, stop, end}
+use Rattle.field.specs.Field.{p}
+use Rattle.circuit.specs.Circuit.{word}
+use Rattle.rows.proofs.sums_verdict.Given as goal
+
+abbrev pub each : List ℕ → List ℕ → List ℕ → ℕ → Outcome
+each a b c i = require (eqb (word a i * word b i % p) (word c i)) 10 (suc i)
+
+pub record Rows (a b c : List ℕ) (i : ℕ) : Type 0 where
+  pub passed : Passed (each a b c) (length a) i
+
+abbrev pub invariant-loop-i : goal.invariant-loop-i
+invariant-loop-i l = Rows l.a l.b l.c l.i
+
+abbrev pub decreases-loop-i : goal.decreases-loop-i
+decreases-loop-i l = length l.a - l.i

@@ -1,0 +1,12 @@
+-- Invariant: the words before i are src's, so with the rest of src behind them they make src.
+use mathlib.Core.Path.{◌≡◌, ◌∙◌}
+use mathlib.Core.List.{List, ◌++◌, append-nil}
+use Prim.Native.Nat.{ℕ, ◌+◌, ◌-◌, ◌≤◌, ◌<◌}
+use lib.ListN.{length, take, drop, set, get_or, length-set, drop_of_length-le}
+use Rattle.slices.proofs.copy.Given as goal
+
+abbrev pub invariant-loop-i : goal.invariant-loop-i
+invariant-loop-i l = (l.i ≤ length l.src) × (length l.dst ≡ length l.src) × (take l.i l.dst ++ drop l.i l.src ≡ l.src)
+
+abbrev pub decreases-loop-i : goal.decreases-loop-i
+decreases-loop-i l = length l.src - l.i
