@@ -22,6 +22,7 @@ use Rattle.field.proofs.PrimeField.{field_prime}
 use Rattle.qap.specs.Setting.{standard}
 use Rattle.answer_check.proofs.AnswerChecks.{public-value, answers_decided}
 use Rattle.answer_check.proofs.answers_agree.Goals as goal
+use Rattle.answer_check.proofs.answers_agree.Goals.{After-basis_values-z, After-room-basis, After-rows_of-m, Start}
 
 abbrev start : (c : After-rows_of-m) → tie.Start
 start c = c

@@ -7,6 +7,7 @@ use Rattle.circuit.proofs.Formed.{circuit-formed}
 use Rattle.qap.specs.Refusals.{check_answers_verdict}
 use Rattle.field.specs.Field.{p}
 use Rattle.answer_check.proofs.check_answers_verdict.Goals as goal
+use Rattle.answer_check.proofs.check_answers_verdict.Goals.{Else-read-ne0}
 
 formed : (c : Else-read-ne0) → Formed p c.args.circuit.now
 formed c = (circuit-formed _ (is_accepted c.circuit_verdict-read.ensures c.if-read-ne0.false)).formed
@@ -31,4 +32,4 @@ point_verdict-requires c = formed c
 
 pub returns : goal.returns
 unfolding check_answers_verdict
-returns-then-read-ne0 c = search calls depth 16
+returns c = search calls depth 16

@@ -13,7 +13,7 @@ returns-then-times-add_scaled c =
     c.times.ensures c.add_scaled.ensures c.if-times-add_scaled.true)
 
 pub returns : goal.returns
-returns-then-times-add_scaled c =
+returns c =
     let args = c.args in
     decides_false (λ e. c.if-times-add_scaled.false (words_same p args.r args.part-a args.part-b args.part_c args.z
     c.plus-u.ensures c.plus-v.ensures c.plus-t.ensures

@@ -15,6 +15,7 @@ use Rattle.field.specs.Field.{p}
 use Rattle.field.proofs.PrimeField.{field_prime}
 use Rattle.qap.specs.Setting.{standard}
 use Rattle.answers.proofs.answer_rows.Goals as goal
+use Rattle.answers.proofs.answer_rows.Goals.{After-room-sums_a, After-room-sums_b, After-room-sums_c, After-rows_of-m, After-rows_verdict-hold, Else-hold-ne0, Start}
 
 abbrev start : (c : After-rows_of-m) → tie.Start
 start c = c
@@ -85,7 +86,7 @@ four_answers-numbers-requires c =
     }
 
 pub returns : goal.returns
-returns-then-hold-ne0 c =
+returns c =
     let told = (read c).rows-verdict.ensures.outcome in
     record {
       number_and_place = told;

@@ -52,7 +52,7 @@ answer_rows-requires c =
     (is_accepted c.ready_verdict-ready.ensures c.if-ready-ne0.false, is_accepted c.point_verdict-pointed.ensures c.if-pointed-ne0.false)
 
 pub returns : goal.returns
-returns-then-ready-ne0 c =
+returns c =
     let past = c.before in
     let e = by_rows _ _ _ _ (is_accepted past.before.before.ready-verdict.ensures past.if1.false)
     (is_accepted c.point_verdict-pointed.ensures c.if-pointed-ne0.false) in

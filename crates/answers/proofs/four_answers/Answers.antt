@@ -26,6 +26,7 @@ use Rattle.field.proofs.PrimeField.{field_prime}
 use Rattle.qap.specs.Setting.{standard}
 use Rattle.answers.proofs.FourLaws.{four_answers}
 use Rattle.answers.proofs.four_answers.Goals as goal
+use Rattle.answers.proofs.four_answers.Goals.{After-basis_values-z, After-room-basis, Start}
 
 abbrev start : (c : After-room-basis) → tie.Start
 start c = c

@@ -15,4 +15,4 @@ assignment_words_verdict-requires c = (circuit-formed _ (is_accepted c.circuit_v
 
 pub returns : goal.returns
 unfolding circuit_then_assignment
-returns-then-read-ne0 c = search calls depth 16
+returns c = search calls depth 16

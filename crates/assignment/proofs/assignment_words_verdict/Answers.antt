@@ -8,6 +8,7 @@ use lib.ListN.{length}
 use Rattle.outcome.proofs.Chain.{chained, called, called-refused, tested}
 use Rattle.assignment.specs.Assignment.{assignment_verdict}
 use Rattle.assignment.proofs.assignment_words_verdict.Goals as goal
+use Rattle.assignment.proofs.assignment_words_verdict.Goals.{Else-sized-ne0}
 
 sized : (c : Else-sized-ne0) →
     length c.args.values.now ≡ c.columns_of-n.result + 2
@@ -21,7 +22,7 @@ returns-then-sized-ne0 c =
 
 pub returns : goal.returns
 unfolding assignment_verdict
-returns-then-sized-ne0 c =
+returns c =
     let counts = c.before in
     rw (← counts.before.publics-of.ensures, ← counts.columns_of.ensures)
     (called c.require-sized.ensures c.if-sized-ne0.false (search chained depth 16))

@@ -11,6 +11,7 @@ use Rattle.assignment.specs.WellFormed.{AssignmentFormed}
 use Rattle.assignment.proofs.Accepted.{both-formed}
 use borrow.Author.Rules.{rules}
 use Rattle.assignment.proofs.public_section.Goals as goal
+use Rattle.assignment.proofs.public_section.Goals.{Else-found-ne0}
 
 formed : (c : Else-found-ne0) → let args = c.args in
     WellFormed p args.circuit.now × AssignmentFormed p args.circuit.now args.values.now
@@ -25,7 +26,7 @@ slice_bounds-result-end-2 c = sym (length-take-le _ _ (omega (arith, c.publics_o
 
 pub returns : goal.returns
 unfolding public_section
-returns-then-found-ne0 c =
+returns c =
     rw c.publics_of-end.ensures
     (sym (accepted_new _ _ (is_accepted c.assignment_verdict-found.ensures c.if-found-ne0.false)))
 

@@ -8,6 +8,7 @@ use lib.ListN.{length}
 use Rattle.outcome.proofs.Chain.{chained, called, called-refused, tested}
 use Rattle.assignment.specs.Assignment.{public_verdict}
 use Rattle.assignment.proofs.public_words_verdict.Goals as goal
+use Rattle.assignment.proofs.public_words_verdict.Goals.{Else-sized-ne0}
 
 sized : (c : Else-sized-ne0) →
     length c.args.values.now ≡ c.publics_of-q.result + 1
@@ -20,7 +21,7 @@ returns-then-sized-ne0 c =
 
 pub returns : goal.returns
 unfolding public_verdict
-returns-then-sized-ne0 c =
+returns c =
     rw (← c.publics_of-q.ensures)
     (called c.require-sized.ensures c.if-sized-ne0.false (search chained depth 16))
 

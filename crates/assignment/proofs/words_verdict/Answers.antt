@@ -24,7 +24,7 @@ loop-i-preserved c =
 
 pub returns : goal.returns
 unfolding words_verdict
-returns-then-found-ne0 c =
+returns c =
     c.fine.ensures ∙ end _ _ c.loop-i.invariant.passed c.loop-i-test.false (λ i l. proper-require _ _ _ c.requires.0)
 
 pub loop-i-init : goal.loop-i-init

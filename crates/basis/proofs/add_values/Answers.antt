@@ -15,6 +15,7 @@ use Rattle.poly.specs.AddScaled.{scaled}
 use Rattle.basis.specs.Column.{Prepared, AddedFirst}
 use Rattle.basis.proofs.ColumnLaws.{added_none, added-zero, added-column}
 use Rattle.basis.proofs.add_values.Goals as goal
+use Rattle.basis.proofs.add_values.Goals.{Start}
 
 -- one value more that is not 0
 step : (y z ws : List ℕ) (i : ℕ) {old out new : List ℕ} {d : ℕ} → length y ≡ length old → Prepared p (length y) z ws → i < length y →

@@ -27,6 +27,6 @@ fill_columns-requires c =
     }
 
 pub returns : goal.returns
-returns-then-verdict-ne0 c =
+returns c =
     let verdict = c.before in
     filled-done _ verdict.column-verdict.ensures _ _ c.if-verdict-ne0.false (λ _. one-column c.fill_columns.ensures)

@@ -12,6 +12,7 @@ use Rattle.qap.proofs.Standard.{count-points}
 use Rattle.columns.proofs.ColumnLaws.{all_columns}
 use lib.ListN.{length}
 use Rattle.columns.proofs.columns.Goals as goal
+use Rattle.columns.proofs.columns.Goals.{Else-verdict-ne0}
 
 asked : (c : Else-verdict-ne0) →
     ColumnsAsked standard c.args.circuit.now c.args.matrix (length c.args.out.now)
@@ -33,7 +34,7 @@ fill_columns-requires c =
     }
 
 pub returns : goal.returns
-returns-then-verdict-ne0 c =
+returns c =
     let n = c.before in
     let verdict = n.before.before.before in
     filled-done _ verdict.columns-verdict.ensures _ _ n.before.if1.false

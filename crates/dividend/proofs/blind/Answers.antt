@@ -11,6 +11,7 @@ use Rattle.field.specs.Field.{p}
 use Rattle.dividend.proofs.BlindedLaws.{values-kept, last-zero, blinded_law}
 use Rattle.field.proofs.PrimeField.{field_prime}
 use Rattle.dividend.proofs.blind.Goals as goal
+use Rattle.dividend.proofs.blind.Goals.{After-inverses-1}
 
 abbrev start : (c : After-inverses-1) → tie.Start
 start c = c

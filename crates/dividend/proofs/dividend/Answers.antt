@@ -6,6 +6,7 @@ use borrow.Author.Rules.{rules}
 use Rattle.slices.proofs.Rooms.{Front, Back, front, back}
 use Rattle.circuit.proofs.Rows.{row_range}
 use Rattle.dividend.proofs.dividend.Goals as goal
+use Rattle.dividend.proofs.dividend.Goals.{After-blinded_whole, After-blinded_whole-2, After-blinded_whole-3, After-room-a, After-room-b, After-room-c, Start}
 
 few : (c : Start) → c.args.m + 1 ≤ 257
 few c = omega (arith, c.requires.count, (row_range c.requires.circuit).at_most)

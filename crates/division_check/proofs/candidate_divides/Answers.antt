@@ -10,6 +10,7 @@ use Rattle.dividend.proofs.GivenLaws.{target-made, ready-given}
 use Rattle.qap.specs.Setting.{standard}
 use Rattle.division_check.proofs.DivisionChecks.{ready, formed, few, candidate-size, division_decided}
 use Rattle.division_check.proofs.candidate_divides.Goals as goal
+use Rattle.division_check.proofs.candidate_divides.Goals.{After-room-z, After-rows_of-m, After-target}
 
 abbrev start : (c : After-rows_of-m) → tie.Start
 start c = c

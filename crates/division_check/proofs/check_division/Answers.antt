@@ -11,5 +11,5 @@ pub returns-then-verdict-ne0 : goal.returns-then-verdict-ne0
 returns-then-verdict-ne0 c = judged-refused _ c.check_division_verdict-verdict.ensures c.if-verdict-ne0.true
 
 pub returns : goal.returns
-returns-then-verdict-ne0 c =
+returns c =
     judged-accepted _ c.check_division_verdict-verdict.ensures c.if-verdict-ne0.false _ c.candidate_divides.ensures c.judged.ensures

@@ -12,6 +12,7 @@ use Rattle.circuit.proofs.Rows.{row_range}
 use Rattle.field.specs.Field.{p}
 use Rattle.qap.specs.Setting.{standard}
 use Rattle.division_check.proofs.check_division_verdict.Goals as goal
+use Rattle.division_check.proofs.check_division_verdict.Goals.{Else-ready-ne0}
 
 formed : (c : Else-ready-ne0) → Formed p c.args.circuit.now
 formed c = (circuit-formed _ (ready standard _ _ _ (is_accepted c.ready_verdict-ready.ensures c.if-ready-ne0.false)).circuit).formed
@@ -35,6 +36,6 @@ overflow_add-m c =
 
 pub returns : goal.returns
 unfolding check_division_verdict
-returns-then-ready-ne0 c =
+returns c =
     let counted = c.rows_of_lem.ensures in
     rw (quotient-words p _) (rw (← counted) (search calls depth 16))

@@ -27,6 +27,6 @@ pub loop-i-preserved : goal.loop-i-preserved
 loop-i-preserved c = one_more c.loop-i.invariant (search rules) c.if-a-i.false
 
 pub returns : goal.returns
-returns-then-a-i c =
+returns c =
     let now = c.loop-i in
     decides_true (ext_get_or 0 _ _ c.requires (λ k l. now.invariant.word k (omega arith)))

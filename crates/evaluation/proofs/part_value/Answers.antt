@@ -8,6 +8,7 @@ use Rattle.circuit.proofs.Rows.{row_range}
 use Rattle.field.proofs.PrimeField.{field_prime}
 use Rattle.evaluation.proofs.PartValues.{part_at}
 use Rattle.evaluation.proofs.part_value.Goals as goal
+use Rattle.evaluation.proofs.part_value.Goals.{After-room-sums, After-row_sums}
 
 abbrev start : (c : After-room-sums) → tie.Start
 start c = c

@@ -14,6 +14,7 @@ use Rattle.evaluation.specs.Values.{PartGiven}
 use Rattle.field.proofs.PrimeField.{field_prime}
 use Rattle.evaluation.proofs.BlindedValues.{blinded_at}
 use Rattle.evaluation.proofs.private_parts.Goals as goal
+use Rattle.evaluation.proofs.private_parts.Goals.{After-columns_of-n}
 
 abbrev start : (c : After-columns_of-n) → tie.Start
 start c = c

@@ -4,6 +4,7 @@ use native.Mathlib.Nat.{mul-le-mul}
 use native.Mathlib.Omega.{arith}
 use borrow.Author.Rules.{rules}
 use Rattle.field.proofs.add_scaled.Goals as goal
+use Rattle.field.proofs.add_scaled.Goals.{Start}
 
 product : (c : Start) → c.args.k * c.args.s ≤ 4294967295 * 4294967295
 product c = mul-le-mul {n₂ = 4294967295} {m₂ = 4294967295} (omega arith) (omega arith)

@@ -9,7 +9,7 @@ pub returns-then-word-eq0 : goal.returns-then-word-eq0
 returns-then-word-eq0 c = record { of_zero = λ h. refl; of_nonzero = λ nonzero. absurd (nonzero (record { same = search rules })) }
 
 pub returns : goal.returns
-returns-then-word-eq0 c =
+returns c =
     let found = c.word_inverse.ensures in
     record {
       of_zero = λ h. absurd (c.if-word-eq0.false h.same);

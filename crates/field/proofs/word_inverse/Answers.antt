@@ -34,7 +34,7 @@ loop-rest-preserved c =
     let now = c.loop-rest in
     record {
       positive = leaves p_prime now.rest (search rules) (search rules);
-      below = omega (arith, loop-rest-smaller c);
+      below = omega (arith, loop-less c);
       word = search rules;
       leaves-rest = rw c.times-factor.ensures (turn _ now.factor now.invariant.leaves-rest);
     }

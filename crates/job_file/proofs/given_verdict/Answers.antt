@@ -14,6 +14,7 @@ use Rattle.job_file.specs.File.{trailer_verdict}
 use Rattle.job_file.specs.Given.{given_verdict}
 use Rattle.job_file.proofs.FileLaws.{trailer-six}
 use Rattle.job_file.proofs.given_verdict.Goals as goal
+use Rattle.job_file.proofs.given_verdict.Goals.{After-and_then-shaped, Else-shaped-ne0}
 
 shaped : (c : After-and_then-shaped) →
     let args = c.args in
@@ -29,7 +30,7 @@ returns-then-shaped-ne0 c = called-refused _ (shaped c) c.if-shaped-ne0.true ∙
 
 pub returns : goal.returns
 unfolding given_verdict
-returns-then-shaped-ne0 c =
+returns c =
     let read = c.before in
     let words = c.blinders_verdict.ensures ∙ ap (λ (d : Blinders). words_verdict p 12 0 (blinder_words d)) c.blinders_in.ensures in
     called (shaped read.before.before) read.if1.false (search chained depth 16) ∙ and_then_assoc _ _ _

@@ -23,6 +23,7 @@ use Rattle.job_file.specs.Read.{Read, refused}
 use Rattle.job_file.specs.declared.Job.{Job}
 use Rattle.job_file.proofs.FileLaws.{file_rest, up_to_the_end, ends}
 use Rattle.job_file.proofs.read.Goals as goal
+use Rattle.job_file.proofs.read.Goals.{After-columns_of, After-rest_verdict-found, After-section_start-end, Else-begun-ne0, Else-found-ne0}
 
 refusal : (w : List ℕ) {o : Outcome} {j : Job} → o ≡ file_verdict w → (o.number ≡ 0 → ⊥) → j ≡ refused o → Read w j
 refusal w told positive given =
@@ -91,7 +92,7 @@ pub returns-then-found-ne0 : goal.returns-then-found-ne0
 returns-then-found-ne0 c = refusal _ (found c) c.if-found-ne0.true c.refused-then-found-ne0.ensures
 
 pub returns : goal.returns
-returns-then-begun-ne0 c =
+returns c =
     let last = (end c).0 in
     let verdict = found c.before in
     record {

@@ -15,6 +15,7 @@ use Rattle.field.specs.Field.{p}
 use Rattle.job_file.specs.Given.{given_verdict, rest_verdict}
 use Rattle.job_file.proofs.FileLaws.{up_to_the_end}
 use Rattle.job_file.proofs.rest_verdict.Goals as goal
+use Rattle.job_file.proofs.rest_verdict.Goals.{Else-enough-ne0}
 
 six : (c a : List ℕ) → length a < columns c + 2 → outcome 6 0 ≡ assignment_verdict p c a
 unfolding assignment_verdict
@@ -41,7 +42,7 @@ returns-then-enough-ne0 c =
     failed.1 ∙ too_few _ _ (omega (arith, few, c.columns_of-size.ensures))
 
 pub returns : goal.returns
-returns-then-enough-ne0 c = c.given_verdict.ensures ∙ given _ _ _ c.columns_of-size.ensures
+returns c = c.given_verdict.ensures ∙ given _ _ _ c.columns_of-size.ensures
 
 pub slice_bounds-given_verdict-end : goal.slice_bounds-given_verdict-end
 slice_bounds-given_verdict-end c = sym (length-take-le _ _ (enough c))

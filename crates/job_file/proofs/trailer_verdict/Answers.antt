@@ -7,6 +7,7 @@ use lib.ListN.{length}
 use Rattle.outcome.proofs.Chain.{chained, called, called-refused, tested}
 use Rattle.job_file.specs.File.{trailer_verdict}
 use Rattle.job_file.proofs.trailer_verdict.Goals as goal
+use Rattle.job_file.proofs.trailer_verdict.Goals.{Else-sized-ne0}
 
 six : (c : Else-sized-ne0) → length c.args.t.now ≡ 6
 six c = eqb-true _ _ (tested 14 0 c.require-sized.ensures tt c.if-sized-ne0.false)
@@ -17,7 +18,7 @@ returns-then-sized-ne0 c = called-refused _ c.require-sized.ensures c.if-sized-n
 
 pub returns : goal.returns
 unfolding trailer_verdict
-returns-then-sized-ne0 c =
+returns c =
     called c.require-sized.ensures c.if-sized-ne0.false (search chained depth 16)
 
 pub bounds-t-0 : goal.bounds-t-0

@@ -13,6 +13,7 @@ use Rattle.algebra.specs.Points.{consecutive}
 use Rattle.poly.proofs.Slices.{lent_back}
 use Rattle.poly.proofs.FactorLaws.{length-factor, factor-target}
 use Rattle.poly.proofs.target_from.Goals as goal
+use Rattle.poly.proofs.target_from.Goals.{In-loop-i}
 
 -- a word set, and what follows it
 drop-set : (z : List ℕ) (i v : ℕ) → i < length z → drop i (set z i v) ≡ v ∷ drop (suc i) z
@@ -44,11 +45,11 @@ set-size c = length-set c.loop-i.z (c.loop-i.i - 1) 0
 pub slice_bounds-times_factor-count : goal.slice_bounds-times_factor-count
 slice_bounds-times_factor-count c = omega (arith, set-size c)
 
-pub UNKNOWN-slice-bounds-times-factor-start : goal.UNKNOWN-slice-bounds-times-factor-start
-UNKNOWN-slice-bounds-times-factor-start c = omega (arith, set-size c)
+pub slice_bounds-times_factor-start : goal.slice_bounds-times_factor-start
+slice_bounds-times_factor-start c = omega (arith, set-size c)
 
-pub UNKNOWN-slice-bounds-times-factor-end : goal.UNKNOWN-slice-bounds-times-factor-end
-UNKNOWN-slice-bounds-times-factor-end c = omega (arith, set-size c)
+pub slice_bounds-times_factor-end : goal.slice_bounds-times_factor-end
+slice_bounds-times_factor-end c = omega (arith, set-size c)
 
 pub loop-i-preserved : goal.loop-i-preserved
 loop-i-preserved c =

@@ -13,6 +13,7 @@ use Rattle.job_file.proofs.FileLaws.{size-words}
 use Rattle.printed_job.specs.Lines.{program_verdict}
 use Rattle.printed_job.proofs.LinesLaws.{reports-refused}
 use Rattle.printed_job.proofs.print.Goals as goal
+use Rattle.printed_job.proofs.print.Goals.{After-unpack, After-words_room-words, Else-sized-ne0}
 
 pub returns-then-sized-ne0 : goal.returns-then-sized-ne0
 unfolding program_verdict
@@ -36,7 +37,7 @@ read c = back _ (room c).lent c.unpack.auto.1.0
 
 pub returns : goal.returns
 unfolding program_verdict
-returns-then-sized-ne0 c =
+returns c =
     let unpacked = c.before in
     rw (goes_on _ (accepted unpacked.before.before.before))
     (rw ((read unpacked).words, unpacked.unpack.ensures) at c.print_words.ensures)

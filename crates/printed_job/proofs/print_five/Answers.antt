@@ -7,6 +7,7 @@ use Rattle.slices.proofs.Rooms.{Front, Back, front, back}
 use Rattle.circuit.proofs.Rows.{row_range}
 use Rattle.printed_job.proofs.LinesLaws.{answers-formed, five_written}
 use Rattle.printed_job.proofs.print_five.Goals as goal
+use Rattle.printed_job.proofs.print_five.Goals.{After-quotient, After-room-h, After-room-z, After-rows_of-m, After-target}
 
 pub rows_of-m-requires : goal.rows_of-m-requires
 rows_of-m-requires c = (answers-formed _ _ _ _ c.requires.0.0).counts

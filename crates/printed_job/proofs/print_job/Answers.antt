@@ -16,6 +16,6 @@ print_five-requires c =
     ((accepted, answered.done accepted), search rules)
 
 pub returns : goal.returns
-returns-then-found-ne0 c =
+returns c =
     let chosen = c.before in
     reports-done _ chosen.before.before.answers.ensures.number_and_place chosen.if1.false c.print_five.ensures

@@ -12,6 +12,7 @@ use Rattle.job_file.specs.File.{file_verdict, job_verdict}
 use Rattle.job_file.proofs.FileLaws.{Lent, lent}
 use Rattle.printed_job.proofs.LinesLaws.{reports-refused, file_goes_on}
 use Rattle.printed_job.proofs.print_words.Goals as goal
+use Rattle.printed_job.proofs.print_words.Goals.{Else-job-ne0}
 
 accepted : (c : Else-job-ne0) → Accepted (file_verdict c.args.words.now)
 accepted c = is_accepted c.read-job.ensures.number_and_place c.if-job-ne0.false
@@ -30,7 +31,7 @@ returns-then-job-ne0 c =
     reports-refused _ (called-refused _ told chosen.if1.true) chosen.if1.true c.refuse.ensures
 
 pub returns : goal.returns
-returns-then-job-ne0 c =
+returns c =
     let chosen = c.before in
     let parted = chosen.before.before.read.ensures.split (accepted chosen) in
     let cut = parts chosen in

@@ -17,6 +17,7 @@ use Rattle.dividend.proofs.QuotientLaws.{quotient_law}
 use Rattle.field.specs.Field.{p}
 use Rattle.qap.specs.Setting.{standard}
 use Rattle.quotient.proofs.fill_quotient.Goals as goal
+use Rattle.quotient.proofs.fill_quotient.Goals.{After-room-z, After-rows_of-m, After-target, Start}
 
 abbrev start : (c : After-rows_of-m) → tie.Start
 start c = c

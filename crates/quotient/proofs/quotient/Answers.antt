@@ -11,5 +11,5 @@ pub fill_quotient-requires : goal.fill_quotient-requires
 fill_quotient-requires c = is_accepted c.quotient_verdict-verdict.ensures c.if-verdict-ne0.false
 
 pub returns : goal.returns
-returns-then-verdict-ne0 c =
+returns c =
     filled-done _ c.quotient_verdict-verdict.ensures _ _ c.if-verdict-ne0.false (λ _. c.fill_quotient.ensures)

@@ -41,6 +41,6 @@ rows_verdict-requires c =
 
 pub returns : goal.returns
 unfolding quotient_verdict
-returns-then-ready-ne0 c =
+returns c =
     let sized = rw c.rows_of_lem.ensures at c.length_verdict-sized.ensures in
     rw (quotient-words p _) (search calls depth 16)

@@ -15,5 +15,5 @@ section_start-end-requires c = (prefix_formed _ (is_accepted c.prefix_verdict-be
 
 pub returns : goal.returns
 unfolding circuit_verdict
-returns-then-begun-ne0 c =
+returns c =
     called c.prefix_verdict-begun.ensures c.if-begun-ne0.false (rw c.section_start-end.ensures at c.require.ensures)

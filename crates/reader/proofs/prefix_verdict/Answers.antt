@@ -7,6 +7,7 @@ use lib.ListN.{length}
 use Rattle.outcome.proofs.Chain.{chained, called, called-refused, tested}
 use Rattle.circuit.specs.Reader.{prefix_verdict}
 use Rattle.reader.proofs.prefix_verdict.Goals as goal
+use Rattle.reader.proofs.prefix_verdict.Goals.{Else-counted-ne0}
 
 three : (c : Else-counted-ne0) → 3 ≤ length c.args.words.now
 three c = leb-true _ _ (tested 1 _ c.require-counted.ensures tt c.if-counted-ne0.false)
@@ -17,7 +18,7 @@ returns-then-counted-ne0 c = called-refused _ c.require-counted.ensures c.if-cou
 
 pub returns : goal.returns
 unfolding prefix_verdict
-returns-then-counted-ne0 c =
+returns c =
     called c.require-counted.ensures c.if-counted-ne0.false (search chained depth 16)
 
 pub bounds-words-0 : goal.bounds-words-0

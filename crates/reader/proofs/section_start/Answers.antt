@@ -10,6 +10,7 @@ use Rattle.circuit.proofs.Sections.{section-next}
 use Rattle.field.specs.Field.{p}
 use Rattle.reader.proofs.section_start.Invariants.{Begins}
 use Rattle.reader.proofs.section_start.Goals as goal
+use Rattle.reader.proofs.section_start.Goals.{In-loop-k}
 
 formed : (c : In-loop-k) → SectionFormed p c.args.words.now c.loop-k.start
 formed c =

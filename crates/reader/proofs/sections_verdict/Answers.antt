@@ -21,6 +21,7 @@ use Rattle.circuit.proofs.Proper.{proper-section}
 use Rattle.field.specs.Field.{p}
 use Rattle.reader.proofs.sections_verdict.Invariants.{Small, one_of_three, each, small, Entries, Sections}
 use Rattle.reader.proofs.sections_verdict.Goals as goal
+use Rattle.reader.proofs.sections_verdict.Goals.{After-and_then-listed, After-loop-e, Else-counted-ne0, Else-listed-ne0}
 
 -- the count and the entries are there
 record Listed (c : List ℕ) (start : ℕ) : Type 0 where

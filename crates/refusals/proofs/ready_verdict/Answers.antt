@@ -15,5 +15,5 @@ assignment_words_verdict-requires c = (circuit-formed _ (is_accepted c.circuit_v
 
 pub returns : goal.returns
 unfolding ready_verdict
-returns-then-read-ne0 c =
+returns c =
     called c.circuit_verdict-read.ensures c.if-read-ne0.false (search chained depth 16)

@@ -7,6 +7,7 @@ use Rattle.circuit.specs.Limits.{most_rows}
 use Rattle.slices.proofs.Rooms.{Front, front}
 use Rattle.circuit.proofs.Rows.{row_range}
 use Rattle.refusals.proofs.rows_verdict.Goals as goal
+use Rattle.refusals.proofs.rows_verdict.Goals.{After-room-a, After-room-b, After-room-c, After-rows_of-m}
 
 few : (c : After-rows_of-m) → c.rows_of_lem.result ≤ most_rows
 few c = omega (arith, c.rows_of_lem.ensures, (row_range c.requires.0).at_most)

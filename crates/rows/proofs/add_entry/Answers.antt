@@ -14,6 +14,7 @@ use Rattle.circuit.proofs.Rows.{row_inside}
 use Rattle.rows.specs.Sums.{with_entry}
 use borrow.Author.Rules.{rules}
 use Rattle.rows.proofs.add_entry.Goals as goal
+use Rattle.rows.proofs.add_entry.Goals.{After-assigned_at-value}
 
 module _ (c : List ℕ) (s : ℕ) (a : List ℕ) (from to e : ℕ) (xs : List ℕ) where
   too_low : column_of c s e ≤ from → with_entry p c s a from to e xs ≡ xs
@@ -49,7 +50,7 @@ row : (c : After-assigned_at-value) →
 row c = row_inside c.requires.0.1
 
 pub returns : goal.returns
-returns-then-column-from c =
+returns c =
     rw (c.add_scaled.ensures, c.assigned_at-value.ensures)
     (sym (counted c.args.circuit.now c.args.start c.args.values.now c.args.from c.args.to c.args.e
     c.args.out.now (search rules) (search rules)))

@@ -14,6 +14,7 @@ use Rattle.circuit.specs.Circuit.{word}
 use Rattle.rows.specs.Sums.{sums_verdict}
 use Rattle.rows.proofs.sums_verdict.Invariants.{each, Rows}
 use Rattle.rows.proofs.sums_verdict.Goals as goal
+use Rattle.rows.proofs.sums_verdict.Goals.{After-require-found}
 
 found : (c : After-require-found) →
     let args = c.args in
@@ -35,7 +36,7 @@ loop-i-preserved c =
 
 pub returns : goal.returns
 unfolding sums_verdict
-returns-then-found-ne0 c =
+returns c =
     c.fine.ensures ∙ end _ _ c.loop-i.invariant.passed c.loop-i-test.false (λ i l. proper-require _ _ _ (lit< tt))
 
 pub loop-i-init : goal.loop-i-init

@@ -11,5 +11,5 @@ pub fill_target-requires : goal.fill_target-requires
 fill_target-requires c = is_accepted c.target_verdict-verdict.ensures c.if-verdict-ne0.false
 
 pub returns : goal.returns
-returns-then-verdict-ne0 c =
+returns c =
     filled-done _ c.target_verdict-verdict.ensures _ _ c.if-verdict-ne0.false (λ _. c.fill_target.ensures)

@@ -34,7 +34,7 @@ returns-then-i-words c =
     }
 
 pub returns : goal.returns
-returns-then-i-words c =
+returns c =
     let loop = c.loop-i in
     let words = c.args.words.now in
     let done = then_byte (nothing loop.text loop.end) 10 (omega arith) in

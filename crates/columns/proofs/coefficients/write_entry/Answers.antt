@@ -8,6 +8,7 @@ use Prim.Native.Nat.{◌-◌, ◌<◌}
 use Rattle.circuit.proofs.Rows.{row_inside}
 use Rattle.columns.proofs.CoefficientLaws.{length-listed, other-column, own_column}
 use Rattle.columns.proofs.coefficients.write_entry.Goals as goal
+use Rattle.columns.proofs.coefficients.write_entry.Goals.{Start}
 
 pub returns-then-circuit-at : goal.returns-then-circuit-at
 returns-then-circuit-at c = c.requires.1 ∙ other-column _ _ _ _ c.if-circuit-at.true
@@ -32,5 +33,5 @@ pub bounds-out-row : goal.bounds-out-row
 bounds-out-row c = row c
 
 pub returns : goal.returns
-returns-then-circuit-at c =
+returns c =
     rw c.requires.1 (own_column _ _ _ _ (row_inside c.requires.0.0) c.if-circuit-at.false)

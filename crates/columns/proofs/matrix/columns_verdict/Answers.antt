@@ -11,6 +11,7 @@ use Rattle.circuit.proofs.Rows.{row_range}
 use Rattle.field.specs.Field.{p}
 use Rattle.qap.proofs.Standard.{count-points}
 use Rattle.columns.proofs.matrix.columns_verdict.Goals as goal
+use Rattle.columns.proofs.matrix.columns_verdict.Goals.{Else-read-ne0}
 
 formed : (c : Else-read-ne0) → Formed p c.args.circuit.now
 formed c = (circuit-formed _ (is_accepted c.circuit_verdict-read.ensures c.if-read-ne0.false)).formed
@@ -27,7 +28,7 @@ overflow_mul-n c =
 
 pub returns : goal.returns
 unfolding columns_verdict
-returns-then-read-ne0 c =
+returns c =
     let read = c.before in
     rw (count-points p _) (rw (← c.columns_of-n.ensures, ← c.rows_of_lem.ensures)
     (called read.before.before.circuit-verdict.ensures read.if1.false (search chained depth 16)))

@@ -7,6 +7,7 @@ use Rattle.circuit.specs.Limits.{most_rows}
 use Rattle.slices.proofs.Rooms.{Front, Back, front, back}
 use Rattle.circuit.proofs.Rows.{row_range}
 use Rattle.columns.proofs.matrix.fill_columns.Goals as goal
+use Rattle.columns.proofs.matrix.fill_columns.Goals.{After-prepare, After-room-weights, After-room-z, After-rows_of-m}
 
 few : (c : After-rows_of-m) → c.rows_of_lem.result ≤ most_rows
 few c = omega (arith, c.rows_of_lem.ensures, (row_range c.requires.circuit).at_most)

@@ -7,6 +7,7 @@ use Rattle.slices.proofs.Rooms.{Front, Back, front, back}
 use Rattle.circuit.proofs.Rows.{row_range}
 use Rattle.columns.proofs.ColumnLaws.{through_coefs}
 use Rattle.columns.proofs.matrix.write_column.Goals as goal
+use Rattle.columns.proofs.matrix.write_column.Goals.{After-column_values, After-room-values}
 
 values-front : (c : After-room-values) → Front (length c.args.out.now) c.room-values.result
 values-front c =

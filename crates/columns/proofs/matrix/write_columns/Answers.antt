@@ -10,6 +10,7 @@ use Rattle.circuit.proofs.Rows.{row_range}
 use Rattle.field.specs.Field.{p}
 use Rattle.columns.proofs.ColumnLaws.{WrittenUpTo, place_fits, one_more}
 use Rattle.columns.proofs.matrix.write_columns.Goals as goal
+use Rattle.columns.proofs.matrix.write_columns.Goals.{In-loop-t}
 
 pub loop-t-init : goal.loop-t-init
 loop-t-init c =

@@ -11,6 +11,7 @@ use Rattle.poly.specs.Interpolation.{differences}
 use Rattle.slices.proofs.Front.{front-word, rest-kept}
 use Rattle.poly.proofs.Slices.{kept_word, kept-rest}
 use Rattle.poly.proofs.interpolation.subtract_and_divide.Goals as goal
+use Rattle.poly.proofs.interpolation.subtract_and_divide.Goals.{In-loop-i}
 
 step : (t v : List ℕ) (y i : ℕ) {w : ℕ} → i < length t → i < length v → w ≡ (get_or v i 0 + (p - y)) * get_or t i 0 % p →
     take (i + 1) (set v i w) ++ differences p (drop (i + 1) t) y (drop (i + 1) (set v i w)) ≡ take i v ++ differences p (drop i t) y (drop i v)

@@ -11,4 +11,4 @@ pub returns-then-row-row_before : goal.returns-then-row-row_before
 returns-then-row-row_before c = simp (le-ltb _ _ c.if-row_before-row.false, ne_eqb c.args.row_before c.args.row (λ e. omega arith))
 
 pub returns : goal.returns
-returns-then-row_before-row c = simp (le-ltb _ _ c.if-row_before-row.false, eq-eqb _ _ (le_antisymm c.if-row-row_before.false c.if-row_before-row.false))
+returns c = simp (le-ltb _ _ c.if-row_before-row.false, eq-eqb _ _ (le_antisymm c.if-row-row_before.false c.if-row_before-row.false))

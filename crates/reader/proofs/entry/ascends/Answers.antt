@@ -18,6 +18,6 @@ pub returns-then-e-eq0 : goal.returns-then-e-eq0
 returns-then-e-eq0 c = simp (eq-eqb _ _ c.if-e-eq0.true)
 
 pub returns : goal.returns
-returns-then-e-eq0 c =
+returns c =
     let args = c.args in
     c.above.ensures ∙ sym (entry_before args.words.now args.start args.e (search rules))

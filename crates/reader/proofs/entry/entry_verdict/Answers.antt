@@ -10,5 +10,5 @@ returns-then-ranges-ne0 c = called-refused _ c.ranges_verdict-ranges.ensures c.i
 
 pub returns : goal.returns
 unfolding entry_verdict
-returns-then-ranges-ne0 c =
+returns c =
     called c.ranges_verdict-ranges.ensures c.if-ranges-ne0.false (made 5 _ c.require.ensures c.ascends.ensures)

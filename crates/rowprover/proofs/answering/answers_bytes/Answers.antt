@@ -13,6 +13,7 @@ use Rattle.job_file.specs.File.{size_verdict}
 use Rattle.job_file.proofs.FileLaws.{size-words}
 use Rattle.rowprover.specs.Exports.{answers_bytes_verdict}
 use Rattle.rowprover.proofs.answering.answers_bytes.Goals as goal
+use Rattle.rowprover.proofs.answering.answers_bytes.Goals.{After-unpack, After-words_room-words, Else-sized-ne0}
 
 pub returns-then-sized-ne0 : goal.returns-then-sized-ne0
 unfolding answers_bytes_verdict
@@ -32,7 +33,7 @@ read c = back _ (room c).lent c.unpack.auto.1.0
 
 pub returns : goal.returns
 unfolding answers_bytes_verdict
-returns-then-sized-ne0 c =
+returns c =
     let unpacked = c.before in
     rw (goes_on _ (accepted unpacked.before.before.before))
     (rw ((read unpacked).words, unpacked.unpack.ensures) at c.answers_words.ensures)

@@ -7,7 +7,7 @@ pub returns-then-hold-ne0 : goal.returns-then-hold-ne0
 returns-then-hold-ne0 c = filled-refused _ c.answer_rows-found.ensures.number_and_place _ c.if-hold-ne0.true
 
 pub returns : goal.returns
-returns-then-hold-ne0 c =
+returns c =
     let past = c.before in
     let found = past.before.before.before.answer-rows in
     filled-done _ found.ensures.number_and_place _ _ past.if1.false (λ h. record {

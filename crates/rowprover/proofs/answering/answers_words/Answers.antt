@@ -14,6 +14,7 @@ use Rattle.job_file.specs.File.{file_verdict}
 use Rattle.job_file.proofs.FileLaws.{file_ready, file_answers_ready, Lent, lent}
 use Rattle.rowprover.specs.Exports.{answers_bytes, words_then_size}
 use Rattle.rowprover.proofs.answering.answers_words.Goals as goal
+use Rattle.rowprover.proofs.answering.answers_words.Goals.{Else-read-ne0, Else-sized-ne0}
 
 accepted : (c : Else-read-ne0) → Accepted (file_verdict c.args.words.now)
 accepted c = is_accepted c.read-job.ensures.number_and_place c.if-read-ne0.false
@@ -45,7 +46,7 @@ answers_of-requires c =
 
 pub returns : goal.returns
 unfolding words_then_size
-returns-then-read-ne0 c =
+returns c =
     let sizing = c.before in
     let past = sizing.before.before.before in
     let l = parts past in

@@ -12,6 +12,7 @@ use Rattle.job_file.proofs.FileLaws.{size-words}
 use Rattle.rowprover.specs.Exports.{check_bytes_verdict}
 use Rattle.rowprover.proofs.Sizes.{Sized, sizes-accepted}
 use Rattle.rowprover.proofs.checking.check_bytes.Goals as goal
+use Rattle.rowprover.proofs.checking.check_bytes.Goals.{After-unpack, After-words_room-words, Else-sized-ne0}
 
 pub returns-then-sized-ne0 : goal.returns-then-sized-ne0
 unfolding check_bytes_verdict
@@ -38,7 +39,7 @@ check_circuit-requires c =
 
 pub returns : goal.returns
 unfolding check_bytes_verdict
-returns-then-sized-ne0 c =
+returns c =
     let past = c.before in
     rw (goes_on _ (is_accepted past.before.before.sizes-verdict.ensures past.if1.false))
     (rw ((read c).words, c.unpack.ensures) at c.check_circuit.ensures)

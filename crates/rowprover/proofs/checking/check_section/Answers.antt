@@ -7,6 +7,7 @@ use Rattle.slices.proofs.Rooms.{Back, back}
 use Rattle.packing.proofs.Unpacking.{Fits, fits}
 use Rattle.job_file.proofs.FileLaws.{size-words}
 use Rattle.rowprover.proofs.checking.check_section.Goals as goal
+use Rattle.rowprover.proofs.checking.check_section.Goals.{After-room-words, After-unpack}
 
 room : (c : After-room-words) → Fits c.args.section.now c.room-words.result
 room c =
