@@ -1,21 +1,23 @@
 // Headings, and lines of words in decimals with a space between.
-use libc::STDOUT_FILENO;
 use outcome::Outcome;
 
+// The descriptor of standard output.
+const STDOUT: i32 = 1;
+
 fn number(n: u32) {
-    io::print_decimal(STDOUT_FILENO, n as u64);
+    io::print_decimal(STDOUT, n as u64);
 }
 
 fn space() {
-    io::write_all(STDOUT_FILENO, b" ");
+    io::write_all(STDOUT, b" ");
 }
 
 fn line_end() {
-    io::write_all(STDOUT_FILENO, b"\n");
+    io::write_all(STDOUT, b"\n");
 }
 
 pub fn heading(name: &[u8]) {
-    io::write_all(STDOUT_FILENO, name);
+    io::write_all(STDOUT, name);
     line_end();
 }
 
@@ -39,7 +41,7 @@ pub fn line(words: &[u32]) {
 fn number_and_place(o: Outcome) {
     number(o.number);
     space();
-    io::print_decimal(STDOUT_FILENO, o.place as u64);
+    io::print_decimal(STDOUT, o.place as u64);
 }
 
 pub fn outcome_line(o: Outcome) {
