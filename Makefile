@@ -6,7 +6,7 @@
 .PHONY: run test bench soak layers
 
 run:
-	rt check job
+	tools/build_job
 	tools/job
 
 test:

@@ -9,12 +9,12 @@
 
 needs cargo cargo
 
-archive=${ROWPROVER_ARCHIVE:-target/staticlib/librowprover.a}
+archive=${ROWPROVER_ARCHIVE:-crates/rowprover/out/librowprover.a}
 if [[ -n ${ROWPROVER_ARCHIVE:-} ]]; then
     printf 'not the product: %s\n' "$archive"
     build_archive() { :; }
 else
-    build_archive() { rt staticlib rowprover; }
+    build_archive() { (cd crates/rowprover && rt lib); }
 fi
 
 export CARGO_TARGET_DIR=$PWD/host/rust/target
