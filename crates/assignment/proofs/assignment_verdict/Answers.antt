@@ -3,7 +3,6 @@ use Rattle.outcome.proofs.Chain.{calls}
 use Rattle.outcome.proofs.Verdict.{is_accepted}
 use Rattle.circuit.proofs.Formed.{circuit-formed}
 use Rattle.assignment.specs.Assignment.{circuit_then_assignment}
-use borrow.Author.Rules.{rules}
 use Rattle.assignment.proofs.assignment_verdict.Goals as goal
 
 pub returns-then-read-ne0 : goal.returns-then-read-ne0

@@ -9,7 +9,6 @@ use Rattle.field.proofs.PrimeField.{field_prime}
 use Rattle.assignment.specs.Assignment.{public_section}
 use Rattle.assignment.specs.WellFormed.{AssignmentFormed}
 use Rattle.assignment.proofs.Accepted.{both-formed}
-use borrow.Author.Rules.{rules}
 use Rattle.assignment.proofs.public_section.Goals as goal
 use Rattle.assignment.proofs.public_section.Goals.{Else-found-ne0}
 
@@ -22,7 +21,8 @@ unfolding public_section
 returns-then-found-ne0 c = sym (refused_old _ _ (is_refused c.assignment_verdict-found.ensures c.if-found-ne0.true))
 
 pub slice_bounds-result-end-2 : goal.slice_bounds-result-end-2
-slice_bounds-result-end-2 c = sym (length-take-le _ _ (omega (arith, c.publics_of-end.ensures, formed c)))
+slice_bounds-result-end-2 c =
+    let here = formed (goal.at.slice_bounds-result-end-2 c).Else-found-ne0 in sym (length-take-le _ _ (omega (arith, c.publics_of-end.ensures)))
 
 pub returns : goal.returns
 unfolding public_section
@@ -34,4 +34,4 @@ pub publics_of-end-requires : goal.publics_of-end-requires
 publics_of-end-requires c = (formed c).0.formed.counts
 
 pub overflow_add-end : goal.overflow_add-end
-overflow_add-end c = omega (arith, c.publics_of-end.ensures, formed c)
+overflow_add-end c = let here = formed (goal.at.overflow_add-end c).Else-found-ne0 in omega arith

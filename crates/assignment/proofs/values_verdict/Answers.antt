@@ -1,5 +1,4 @@
 -- The checks in their order.
-use borrow.Author.Rules.{rules}
 use Rattle.outcome.proofs.Chain.{chained}
 use Rattle.assignment.specs.Assignment.{values_verdict}
 use Rattle.assignment.proofs.values_verdict.Goals as goal

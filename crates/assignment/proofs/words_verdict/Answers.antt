@@ -1,14 +1,8 @@
-use mathlib.Core.List.{List}
 use mathlib.Core.Path.{◌∙◌}
-use Prim.Native.Nat.{ℕ, ◌-◌}
 use borrow.Author.Rules.{rules}
-use lib.ListN.{length}
 use Rattle.outcome.proofs.Verdict.{is_accepted, is_refused, proper-require}
-use Rattle.outcome.proofs.Scan.{Passed, begin, go_on, stop, end}
-use Rattle.field.specs.Field.{p}
+use Rattle.outcome.proofs.Scan.{begin, go_on, stop, end}
 use Rattle.assignment.specs.Assignment.{words_verdict}
-use Rattle.assignment.proofs.Accepted.{each}
-use Rattle.assignment.proofs.words_verdict.Invariants.{Words}
 use Rattle.assignment.proofs.words_verdict.Goals as goal
 
 pub returns-then-found-ne0 : goal.returns-then-found-ne0

@@ -1,9 +1,8 @@
 -- Invariant: the words passed are below p. So a word that is not is the first fault.
 use mathlib.Core.List.{List}
-use mathlib.Core.Path.{◌∙◌}
 use Prim.Native.Nat.{ℕ, ◌-◌}
 use lib.ListN.{length}
-use Rattle.outcome.proofs.Scan.{Passed, begin, go_on, stop, end}
+use Rattle.outcome.proofs.Scan.{Passed}
 use Rattle.field.specs.Field.{p}
 use Rattle.assignment.proofs.Accepted.{each}
 use Rattle.assignment.proofs.words_verdict.Given as goal

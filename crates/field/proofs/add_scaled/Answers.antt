@@ -2,7 +2,6 @@
 use Prim.Native.Nat.{◌*◌, ◌≤◌}
 use native.Mathlib.Nat.{mul-le-mul}
 use native.Mathlib.Omega.{arith}
-use borrow.Author.Rules.{rules}
 use Rattle.field.proofs.add_scaled.Goals as goal
 use Rattle.field.proofs.add_scaled.Goals.{Start}
 

@@ -1,5 +1,6 @@
+-- One turn leaves the remainder; it is not 0, since p is prime.
 use mathlib.Core.Path.{◌≡◌, ap}
-use Prim.Native.Nat.{ℕ, ◌+◌, ◌*◌, ◌-◌, ◌/◌, ◌%◌, ◌<◌}
+use Prim.Native.Nat.{ℕ, ◌+◌, ◌*◌, ◌-◌, ◌/◌, ◌%◌}
 use native.Mathlib.Nat.{mod-lt, mod-add-div', div-le_self}
 use native.Mathlib.Omega.{arith}
 use borrow.Author.Rules.{rules}
@@ -8,7 +9,6 @@ use Rattle.algebra.proofs.Congruence.{≈-eq, ≈_sym, ≈-plus, ≈-times, ≈-
 use Rattle.algebra.proofs.Inverse.{leaves}
 use Rattle.field.specs.Field.{p}
 use Rattle.field.proofs.PrimeField.{p_prime}
-use Rattle.field.proofs.word_inverse.Invariants.{Leaves}
 use Rattle.field.proofs.word_inverse.Goals as goal
 
 -- one turn: n is q rest + r, so the multiple n − q of rest leaves r
@@ -34,7 +34,7 @@ loop-rest-preserved c =
     let now = c.loop-rest in
     record {
       positive = leaves p_prime now.rest (search rules) (search rules);
-      below = omega (arith, loop-less c);
+      below = omega arith;
       word = search rules;
       leaves-rest = rw c.times-factor.ensures (turn _ now.factor now.invariant.leaves-rest);
     }

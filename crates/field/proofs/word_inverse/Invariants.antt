@@ -1,7 +1,6 @@
 -- Invariant: a times factor leaves rest modulo p, and rest is a word other than 0. So where rest is 1, factor is the inverse.
 -- Rest falls, and never to 0: p is prime, so no number between 1 and p divides it.
-use mathlib.Core.Path.{◌≡◌, ap}
-use Prim.Native.Nat.{ℕ, ◌+◌, ◌*◌, ◌-◌, ◌/◌, ◌%◌, ◌<◌}
+use Prim.Native.Nat.{ℕ, ◌*◌, ◌<◌}
 use Rattle.algebra.specs.Congruence.{◌≈⟨◌⟩◌}
 use Rattle.field.specs.Field.{p}
 use Rattle.field.proofs.word_inverse.Given as goal

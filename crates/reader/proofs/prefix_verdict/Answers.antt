@@ -1,7 +1,6 @@
 -- The checks in their order; past the first there are three words.
 use native.Mathlib.Omega.{arith}
 use Prim.Native.Nat.{◌≤◌}
-use borrow.Author.Rules.{rules}
 use borrow.Author.Tests.{leb-true}
 use lib.ListN.{length}
 use Rattle.outcome.proofs.Chain.{chained, called, called-refused, tested}
@@ -22,13 +21,13 @@ returns c =
     called c.require-counted.ensures c.if-counted-ne0.false (search chained depth 16)
 
 pub bounds-words-0 : goal.bounds-words-0
-bounds-words-0 c = omega (arith, three c)
+bounds-words-0 c = omega (arith, three (goal.at.bounds-words-0 c).Else-counted-ne0)
 
 pub bounds-words-1 : goal.bounds-words-1
-bounds-words-1 c = omega (arith, three c)
+bounds-words-1 c = omega (arith, three (goal.at.bounds-words-1 c).Else-counted-ne0)
 
 pub bounds-words-2 : goal.bounds-words-2
-bounds-words-2 c = omega (arith, three c)
+bounds-words-2 c = omega (arith, three (goal.at.bounds-words-2 c).Else-counted-ne0)
 
 pub sections_verdict-requires : goal.sections_verdict-requires
-sections_verdict-requires c = three c
+sections_verdict-requires c = three (goal.at.sections_verdict-requires c).Else-counted-ne0

@@ -1,6 +1,4 @@
-use mathlib.Core.List.{List}
-use mathlib.Core.Path.{◌≡◌, refl, ◌∙◌, ap}
-use Prim.Native.Nat.{ℕ, ◌-◌, ◌≤◌}
+use mathlib.Core.Path.{refl, ◌∙◌, ap}
 use native.Mathlib.Nat.{le_antisymm}
 use native.Mathlib.Omega.{arith}
 use borrow.Author.Rules.{rules}
@@ -8,7 +6,6 @@ use Rattle.circuit.specs.Circuit.{section}
 use Rattle.circuit.specs.WellFormed.{SectionFormed}
 use Rattle.circuit.proofs.Sections.{section-next}
 use Rattle.field.specs.Field.{p}
-use Rattle.reader.proofs.section_start.Invariants.{Begins}
 use Rattle.reader.proofs.section_start.Goals as goal
 use Rattle.reader.proofs.section_start.Goals.{In-loop-k}
 
@@ -27,19 +24,20 @@ pub returns : goal.returns
 returns c = c.loop-k.invariant.here ∙ ap (section _) (le_antisymm c.loop-k.invariant.within c.loop-k-test.false)
 
 pub offset_bounds-words-start : goal.offset_bounds-words-start
-offset_bounds-words-start c = omega (arith, (formed c).counted)
+offset_bounds-words-start c = omega (arith, (formed (goal.at.offset_bounds-words-start c).In-loop-k).counted)
 
 pub bounds-words-start : goal.bounds-words-start
-bounds-words-start c = omega (arith, (formed c).counted)
+bounds-words-start c = omega (arith, (formed (goal.at.bounds-words-start c).In-loop-k).counted)
 
 pub overflow_cast-entries : goal.overflow_cast-entries
-overflow_cast-entries c = omega (arith, (formed c).few)
+overflow_cast-entries c = omega (arith, (formed (goal.at.overflow_cast-entries c).In-loop-k).few)
 
 pub overflow_add-start : goal.overflow_add-start
-overflow_add-start c = omega (arith, (formed c).counted)
+overflow_add-start c = omega (arith, (formed (goal.at.overflow_add-start c).In-loop-k).counted)
 
 pub overflow_mul-start : goal.overflow_mul-start
-overflow_mul-start c = omega (arith, (formed c).few)
+overflow_mul-start c = omega (arith, (formed (goal.at.overflow_mul-start c).In-loop-k).few)
 
 pub overflow_add-start-in-loop-k : goal.overflow_add-start-in-loop-k
-overflow_add-start-in-loop-k c = omega (arith, (formed c).counted, (formed c).few)
+overflow_add-start-in-loop-k c =
+    let here = formed (goal.at.overflow_add-start-in-loop-k c).In-loop-k in omega (arith, here.counted, here.few)

@@ -1,6 +1,6 @@
 -- Invariant: `start` is where section k begins, and k is at most the section asked for. Each count read is there, and small.
 use mathlib.Core.List.{List}
-use mathlib.Core.Path.{◌≡◌, refl, ◌∙◌, ap}
+use mathlib.Core.Path.{◌≡◌}
 use Prim.Native.Nat.{ℕ, ◌-◌, ◌≤◌}
 use Rattle.circuit.specs.Circuit.{section}
 use Rattle.reader.proofs.section_start.Given as goal

@@ -1,10 +1,7 @@
-use mathlib.Core.List.{◌++◌, append_assoc}
-use mathlib.Core.Path.{◌≡◌}
-use Prim.Native.Nat.{◌+◌, ◌-◌, ◌*◌, ◌≤◌}
+-- A turn writes one number and its space; the last number has the newline behind it, and with no word left the newline is all.
+use mathlib.Core.List.{append_assoc}
 use native.Mathlib.Omega.{arith}
 use borrow.Author.Rules.{rules}
-use lib.ListN.{length, take, drop}
-use Rattle.text.specs.Text.{number_room, line, Kept}
 use Rattle.text.proofs.TextLaws.{line-more, line-last, line-none, then_byte, nothing, still_kept}
 use Rattle.text.proofs.put_line.Goals as goal
 

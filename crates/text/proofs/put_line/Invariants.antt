@@ -1,5 +1,5 @@
 -- Invariant: the text so far, with the line of the words left, is the whole text; the bytes behind are kept; each word left has its room.
-use mathlib.Core.List.{◌++◌, append_assoc}
+use mathlib.Core.List.{◌++◌}
 use mathlib.Core.Path.{◌≡◌}
 use Prim.Native.Nat.{◌+◌, ◌-◌, ◌*◌, ◌≤◌}
 use lib.ListN.{length, take, drop}

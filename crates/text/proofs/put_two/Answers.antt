@@ -1,6 +1,5 @@
 -- One number behind the other.
 use mathlib.Core.List.{append_assoc}
-use borrow.Author.Rules.{rules}
 use Rattle.text.specs.Text.{line}
 use Rattle.text.proofs.TextLaws.{then_more}
 use Rattle.text.proofs.put_two.Goals as goal

@@ -1,5 +1,4 @@
 -- The checks in their order.
-use borrow.Author.Rules.{rules}
 use Rattle.outcome.proofs.Chain.{made, called, called-refused}
 use Rattle.circuit.specs.Reader.{entry_verdict}
 use Rattle.reader.proofs.entry.entry_verdict.Goals as goal

@@ -1,5 +1,4 @@
 -- The checks in their order.
-use borrow.Author.Rules.{rules}
 use Rattle.outcome.proofs.Chain.{chained}
 use Rattle.circuit.specs.Reader.{ranges_verdict}
 use Rattle.reader.proofs.entry.ranges_verdict.Goals as goal
