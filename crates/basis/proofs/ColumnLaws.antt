@@ -6,7 +6,7 @@ use mathlib.Core.List.{List}
 use Prim.Native.Nat.{ℕ, zero, suc, ◌+◌, ◌*◌, ◌%◌, ◌<◌, ◌≤◌}
 use native.Mathlib.Decide.{dec_lt}
 use native.Mathlib.Omega.{arith}
-use lib.ListN.{length, get_or, length-replicate}
+use lib.ListN.{length, get_or}
 use Rattle.algebra.specs.Congruence.{◌≈⟨◌⟩◌}
 use Rattle.algebra.specs.Prime.{Prime}
 use Rattle.algebra.specs.Polynomial.{Words, value}

@@ -1,6 +1,6 @@
 use mathlib.Core.Path.{◌≡◌, sym, ◌∙◌}
 use mathlib.Core.List.{List}
-use Prim.Native.Nat.{ℕ, suc, ◌+◌, ◌*◌, ◌-◌, ◌%◌, ◌≤◌, ◌<◌}
+use Prim.Native.Nat.{ℕ, suc, ◌+◌, ◌*◌, ◌%◌, ◌<◌}
 use native.Mathlib.Numerals.{add-one}
 use native.Mathlib.Omega.{arith}
 use borrow.Author.Rules.{rules}
@@ -15,7 +15,6 @@ use Rattle.poly.specs.AddScaled.{scaled}
 use Rattle.basis.specs.Column.{Prepared, AddedFirst}
 use Rattle.basis.proofs.ColumnLaws.{added_none, added-zero, added-column}
 use Rattle.basis.proofs.add_values.Goals as goal
-use Rattle.basis.proofs.add_values.Goals.{Start}
 
 -- one value more that is not 0
 step : (y z ws : List ℕ) (i : ℕ) {old out new : List ℕ} {d : ℕ} → length y ≡ length old → Prepared p (length y) z ws → i < length y →
@@ -32,8 +31,8 @@ step y z ws i size ready inside so_far e n =
     (rw point at (added-column so_far (omega arith) p_prime distinct ready.are_weights (sym size ∙ sym many)))
 
 -- what is lent is for as many points as there are values
-ready : (c : Start) → Prepared p (length c.args.y.now) c.args.z.now c.args.weights.now
-ready c = rw c.requires.0 c.requires.2
+ready : {m n : ℕ} {z ws : List ℕ} → m ≡ n → Prepared p n z ws → Prepared p m z ws
+ready same h = rw same h
 
 pub loop-i-init : goal.loop-i-init
 loop-i-init c =
@@ -41,20 +40,22 @@ loop-i-init c =
 
 pub bounds-weights-i : goal.bounds-weights-i
 bounds-weights-i c =
-    omega (arith, (ready c).are_weights.size, length-row_points (length c.args.y.now))
+    let prepared = ready c.requires.0 c.requires.2 in
+    omega (arith, prepared.are_weights.size, length-row_points (length c.args.y.now))
 
 pub add_divided-requires : goal.add_divided-requires
 add_divided-requires c =
     let m = length c.args.y.now in
     let so_far = c.loop-i.invariant.1 in
-    rw (ready c).is_target (omega (arith, length-target p (row_points m), length-row_points m, so_far.size, c.requires.0))
+    let prepared = ready c.requires.0 c.requires.2 in
+    rw prepared.is_target (omega (arith, length-target p (row_points m), length-row_points m, so_far.size, c.requires.0))
 
 pub loop-i-preserved-then-here-ne0 : goal.loop-i-preserved-then-here-ne0
 loop-i-preserved-then-here-ne0 c =
     let now = c.loop-i in
     let args = c.args in (
       search rules,
-      step args.y.now args.z.now args.weights.now now.i c.requires.0 (ready c) (omega arith) now.invariant.1
+      step args.y.now args.z.now args.weights.now now.i c.requires.0 (ready c.requires.0 c.requires.2) (omega arith) now.invariant.1
           c.times.ensures c.add_divided.ensures,
     )
 

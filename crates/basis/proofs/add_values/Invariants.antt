@@ -1,10 +1,9 @@
 -- Invariant: the values of the first i points are added.
-use mathlib.Core.Path.{◌≡◌, sym, ◌∙◌}
-use Prim.Native.Nat.{ℕ, suc, ◌+◌, ◌*◌, ◌-◌, ◌%◌, ◌≤◌, ◌<◌}
+use Prim.Native.Nat.{◌-◌, ◌≤◌}
 use lib.ListN.{length, get_or}
 use Rattle.algebra.specs.Points.{row_points}
 use Rattle.field.specs.Field.{p}
-use Rattle.basis.specs.Column.{Prepared, AddedFirst}
+use Rattle.basis.specs.Column.{AddedFirst}
 use Rattle.basis.proofs.add_values.Given as goal
 
 abbrev pub invariant-loop-i : goal.invariant-loop-i

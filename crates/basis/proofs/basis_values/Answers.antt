@@ -1,5 +1,4 @@
 -- The weights, then the two passes.
-use borrow.Author.Rules.{rules}
 use native.Mathlib.Omega.{arith}
 use Rattle.field.specs.Field.{p}
 use Rattle.basis.proofs.PassLaws.{passes_at}

@@ -1,7 +1,6 @@
 -- The words are 0 first, so what is added is all that they hold.
 use mathlib.Core.Path.{◌≡◌, sym, ◌∙◌}
 use native.Mathlib.Omega.{arith}
-use borrow.Author.Rules.{rules}
 use lib.ListN.{length}
 use Rattle.algebra.proofs.Consecutive.{length-row_points}
 use Rattle.field.specs.Field.{p}
@@ -16,7 +15,7 @@ unfolding zeros
 add_values-requires c =
     let m = length c.args.out.now in
     let cleared = c.clear.ensures in
-    let size : length c.clear.new.0 ≡ m = rw (cleared, length-zeros m) in
+    let size : length c.clear.new.out ≡ m = rw (cleared, length-zeros m) in
     (c.requires.0 ∙ sym size, rw cleared (words-zero {p = p} (omega arith) m), rw size c.requires.1)
 
 pub returns : goal.returns

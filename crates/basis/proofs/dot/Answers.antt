@@ -1,9 +1,8 @@
 use mathlib.Core.Path.{◌≡◌}
-use Prim.Native.Nat.{◌*◌, ◌-◌, ◌≤◌, ◌%◌}
 use native.Mathlib.Numerals.{add-one}
 use native.Mathlib.Omega.{arith}
 use borrow.Author.Rules.{rules}
-use lib.ListN.{length, get_or}
+use lib.ListN.{length}
 use Rattle.algebra.specs.Combination.{total}
 use Rattle.algebra.proofs.Congruence.{≈_refl, ≈-plus, ≈-reduced}
 use Rattle.field.specs.Field.{p}

@@ -1,9 +1,7 @@
 use mathlib.Core.Path.{◌≡◌}
-use Prim.Native.Nat.{◌-◌, ◌≤◌}
 use native.Mathlib.Numerals.{add-one}
 use native.Mathlib.Omega.{arith}
 use borrow.Author.Rules.{rules}
-use Rattle.algebra.specs.Congruence.{Inverse}
 use Rattle.algebra.proofs.Congruence.{≈_refl}
 use Rattle.algebra.specs.Basis.{descent}
 use Rattle.field.specs.Field.{p}

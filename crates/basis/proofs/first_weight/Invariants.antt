@@ -1,5 +1,4 @@
 -- Invariant: weight is the inverse of −1 · −2 · .. · −k.
-use mathlib.Core.Path.{◌≡◌}
 use Prim.Native.Nat.{◌-◌, ◌≤◌}
 use Rattle.algebra.specs.Congruence.{Inverse}
 use Rattle.algebra.specs.Basis.{descent}

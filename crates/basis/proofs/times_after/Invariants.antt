@@ -1,11 +1,11 @@
 -- Invariant: the words from i on are done, those before i are the given ones, and after is the product over the points from number
 -- i on.
-use mathlib.Core.Path.{◌≡◌, sym}
-use mathlib.Core.List.{List, ◌++◌, append-nil}
-use Prim.Native.Nat.{ℕ, suc, ◌+◌, ◌*◌, ◌-◌, ◌%◌, ◌≤◌, ◌<◌}
-use lib.ListN.{length, take, drop, set, get_or, length-set}
+use mathlib.Core.Path.{◌≡◌}
+use mathlib.Core.List.{◌++◌}
+use Prim.Native.Nat.{suc, ◌*◌, ◌%◌, ◌≤◌}
+use lib.ListN.{length, take, drop}
 use Rattle.field.specs.Field.{p}
-use Rattle.basis.specs.Passes.{mapped, points_from, times_after}
+use Rattle.basis.specs.Passes.{mapped, points_from}
 use Rattle.basis.proofs.times_after.Given as goal
 
 abbrev pub invariant-loop-i : goal.invariant-loop-i

@@ -1,9 +1,9 @@
 -- Invariant: the words before i are done, those from i on are still to be multiplied, and before is the product over the points
 -- before number i.
-use mathlib.Core.Path.{◌≡◌, sym, ◌∙◌}
-use mathlib.Core.List.{List, ◌++◌, append-nil}
-use Prim.Native.Nat.{ℕ, suc, ◌+◌, ◌*◌, ◌-◌, ◌%◌, ◌≤◌, ◌<◌}
-use lib.ListN.{length, take, drop, set, get_or, length-set, drop_of_length-le}
+use mathlib.Core.Path.{◌≡◌}
+use mathlib.Core.List.{◌++◌}
+use Prim.Native.Nat.{◌*◌, ◌-◌, ◌%◌, ◌≤◌}
+use lib.ListN.{length, take, drop}
 use Rattle.field.specs.Field.{p}
 use Rattle.basis.specs.Passes.{mapped, points_before, times_before}
 use Rattle.basis.proofs.times_before.Given as goal

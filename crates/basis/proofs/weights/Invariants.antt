@@ -1,10 +1,10 @@
 -- Invariant: the words before i are the weights of their points, and weight is that of point number i, as long as there is one.
-use mathlib.Core.Path.{◌≡◌, ◌∙◌, sym}
-use Prim.Native.Nat.{ℕ, suc, ◌+◌, ◌*◌, ◌-◌, ◌%◌, ◌≤◌, ◌<◌}
-use lib.ListN.{length, get_or, set, length-set}
+use mathlib.Core.Path.{◌≡◌}
+use Prim.Native.Nat.{ℕ, suc, ◌*◌, ◌-◌, ◌≤◌, ◌<◌}
+use lib.ListN.{length, get_or}
 use Rattle.algebra.specs.Congruence.{Inverse}
 use Rattle.algebra.specs.Basis.{descent}
-use Rattle.algebra.proofs.ConsecutiveBasis.{ascent, apartness-consecutive}
+use Rattle.algebra.proofs.ConsecutiveBasis.{ascent}
 use Rattle.field.specs.Field.{p}
 use Rattle.basis.proofs.weights.Given as goal
 

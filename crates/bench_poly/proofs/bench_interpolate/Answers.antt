@@ -1,5 +1,4 @@
 -- What `interpolate` leaves is the list through the values.
-use borrow.Author.Rules.{rules}
 use Rattle.field.proofs.PrimeField.{field_prime}
 use Rattle.poly.proofs.KernelLaws.{interpolate-through}
 use Rattle.bench_poly.proofs.bench_interpolate.Goals as goal

@@ -1,9 +1,9 @@
 -- Invariant: the words from i on are done, the words before i are the given ones, and the running word is the value at x of
 -- the words of z after word i.
-use mathlib.Core.Path.{◌≡◌, refl, sym, ap}
-use mathlib.Core.List.{List, [], ◌∷◌, ◌++◌, append-nil}
-use Prim.Native.Nat.{ℕ, zero, suc, ◌+◌, ◌*◌, ◌-◌, ◌≤◌, ◌<◌, ◌%◌}
-use lib.ListN.{length, take, drop, get_or, length-set, drop_of_length-le}
+use mathlib.Core.Path.{◌≡◌}
+use mathlib.Core.List.{◌++◌}
+use Prim.Native.Nat.{suc, ◌≤◌, ◌%◌}
+use lib.ListN.{length, take, drop}
 use Rattle.algebra.specs.Polynomial.{value, divided}
 use Rattle.field.specs.Field.{p}
 use Rattle.poly.specs.AddScaled.{scaled}

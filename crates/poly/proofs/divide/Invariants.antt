@@ -1,11 +1,10 @@
 -- Invariant: the words from i on are divided, and the words before i are the given ones.
-use mathlib.Core.Path.{◌≡◌, sym, ◌∙◌, ap}
-use mathlib.Core.List.{List, ◌∷◌, ◌++◌}
-use Prim.Native.Nat.{ℕ, suc, ◌+◌, ◌-◌, ◌≤◌, ◌<◌}
-use lib.ListN.{length, take, drop, get_or, length-append, length-take, length-drop, take-append-drop}
-use Rattle.algebra.specs.Congruence.{◌≈⟨◌⟩◌, negative}
+use mathlib.Core.Path.{◌≡◌}
+use mathlib.Core.List.{◌++◌}
+use Prim.Native.Nat.{◌+◌, ◌-◌, ◌≤◌}
+use lib.ListN.{length, take, drop}
 use Rattle.field.specs.Field.{p}
-use Rattle.poly.specs.Division.{divide_once, division}
+use Rattle.poly.specs.Division.{division}
 use Rattle.poly.proofs.divide.Given as goal
 
 abbrev pub invariant-loop-i : goal.invariant-loop-i

@@ -1,7 +1,6 @@
 -- The room begins as zeros, so what the loop adds is all that it holds.
 use mathlib.Core.Path.{◌∙◌}
 use native.Mathlib.Omega.{arith}
-use borrow.Author.Rules.{rules}
 use Rattle.field.specs.Field.{p}
 use Rattle.slices.specs.Zeros.{zeros}
 use Rattle.poly.proofs.ProductLaws.{product_in_zeros}

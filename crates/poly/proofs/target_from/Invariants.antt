@@ -1,8 +1,7 @@
 -- Invariant: the words from i on are the target of the points from first + i on.
-use mathlib.Core.Path.{◌≡◌, refl, ◌∙◌}
-use mathlib.Core.List.{List, ◌∷◌}
-use Prim.Native.Nat.{ℕ, suc, ◌+◌, ◌-◌, ◌≤◌, ◌<◌}
-use lib.ListN.{length, take, drop, set, length-set, length-append, length-take, length-drop, drop_of_length-le}
+use mathlib.Core.Path.{◌≡◌}
+use Prim.Native.Nat.{◌+◌, ◌-◌, ◌≤◌, ◌<◌}
+use lib.ListN.{length, drop}
 use Rattle.algebra.specs.Points.{target}
 use Rattle.field.specs.Field.{p}
 use Rattle.algebra.specs.Points.{consecutive}

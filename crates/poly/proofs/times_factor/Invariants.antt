@@ -1,9 +1,8 @@
 -- Invariant: the words before i are done, and the words from i on are a list of the same kind.
-use mathlib.Core.Path.{◌≡◌, refl, sym, ◌∙◌, ap}
-use mathlib.Core.List.{List, [], ◌∷◌, ◌++◌}
-use Prim.Native.Nat.{ℕ, suc, ◌+◌, ◌*◌, ◌-◌, ◌≤◌, ◌<◌, ◌%◌}
-use lib.ListN.{length, take, drop, set, get_or, length-set, length-drop, take-append-drop}
-use Rattle.algebra.specs.Congruence.{◌≈⟨◌⟩◌, negative}
+use mathlib.Core.Path.{◌≡◌}
+use mathlib.Core.List.{◌++◌}
+use Prim.Native.Nat.{◌-◌, ◌≤◌}
+use lib.ListN.{length, take, drop}
 use Rattle.field.specs.Field.{p}
 use Rattle.poly.specs.Factor.{times_factor}
 use Rattle.poly.proofs.times_factor.Given as goal

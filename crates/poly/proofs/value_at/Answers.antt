@@ -1,8 +1,7 @@
 use mathlib.Core.Path.{◌≡◌}
-use Prim.Native.Nat.{suc, ◌-◌, ◌≤◌, ◌%◌}
+use Prim.Native.Nat.{suc, ◌-◌}
 use native.Mathlib.Omega.{arith}
 use borrow.Author.Rules.{rules}
-use lib.ListN.{length, drop}
 use lib.Seq.{drop-length}
 use Rattle.algebra.specs.Polynomial.{value}
 use Rattle.field.specs.Field.{p}

@@ -1,6 +1,6 @@
 -- Invariant: the running word is the value at s of the words from i on.
 use mathlib.Core.Path.{◌≡◌}
-use Prim.Native.Nat.{suc, ◌-◌, ◌≤◌, ◌%◌}
+use Prim.Native.Nat.{◌≤◌, ◌%◌}
 use lib.ListN.{length, drop}
 use Rattle.algebra.specs.Polynomial.{value}
 use Rattle.field.specs.Field.{p}

@@ -1,6 +1,6 @@
 use mathlib.Core.List.{List}
 use mathlib.Core.Path.{◌≡◌, sym, ◌∙◌, ap}
-use Prim.Native.Nat.{ℕ, ◌+◌, ◌-◌, ◌≤◌, ◌<◌}
+use Prim.Native.Nat.{ℕ, ◌+◌, ◌<◌}
 use native.Mathlib.Nat.{le_antisymm}
 use native.Mathlib.Omega.{arith}
 use borrow.Author.Rules.{rules}
@@ -27,21 +27,24 @@ next {c} {a} {start = start} {from = from} {to = to} {e = e} h formed l made = r
 
 pub loop-e-init : goal.loop-e-init
 loop-e-init c =
-    record { within = search rules; words = c.requires.1.1 ∙ no_entries p _ _ _ _ _ }
+    record { within = search rules; words = c.requires.span.1 ∙ no_entries p _ _ _ _ _ }
 
 pub add_entry-requires : goal.add_entry-requires
 add_entry-requires c =
-    let section = c.requires.0.1 in
-    ((c.requires.0.0, section.entry c.loop-e.e (search rules), search rules), (c.requires.1.0, size c.loop-e.invariant))
+    let section = c.requires.formed.1 in
+    record {
+      formed = (c.requires.formed.0, section.entry c.loop-e.e (search rules), search rules);
+      span = (c.requires.span.0, size c.loop-e.invariant);
+    }
 
 pub loop-e-preserved : goal.loop-e-preserved
 loop-e-preserved c =
     let loop = c.loop-e in
-    next loop.invariant (c.requires.0.1.entry loop.e (search rules)) (search rules) c.add_entry.ensures
+    next loop.invariant (c.requires.formed.1.entry loop.e (search rules)) (search rules) c.add_entry.ensures
 
 pub shape_of-out : goal.shape_of-out
 shape_of-out c =
-    size c.loop-e.invariant ∙ sym (ap length c.requires.1.1 ∙ length-table _ _)
+    size c.loop-e.invariant ∙ sym (ap length c.requires.span.1 ∙ length-table _ _)
 
 pub returns : goal.returns
 returns c =

@@ -1,10 +1,10 @@
 -- Invariant: the words are the rows' sums over the entries passed.
 use mathlib.Core.List.{List}
-use mathlib.Core.Path.{◌≡◌, sym, ◌∙◌, ap}
-use Prim.Native.Nat.{ℕ, ◌+◌, ◌-◌, ◌≤◌, ◌<◌}
-use Rattle.circuit.specs.Circuit.{rows, entries}
+use mathlib.Core.Path.{◌≡◌}
+use Prim.Native.Nat.{ℕ, ◌-◌, ◌≤◌}
+use Rattle.circuit.specs.Circuit.{entries}
 use Rattle.field.specs.Field.{p}
-use Rattle.rows.specs.Sums.{entry_sums, with_entry}
+use Rattle.rows.specs.Sums.{entry_sums}
 use Rattle.rows.proofs.add_entries.Given as goal
 
 pub record Added (c : List ℕ) (start : ℕ) (a : List ℕ) (from to : ℕ) (out : List ℕ) (e : ℕ) : Type 0 where

@@ -42,12 +42,12 @@ inside : (c : After-assigned_at-value) → c.assigned_at-value.result < length c
 inside c =
     let column = column_of c.args.circuit.now c.args.start c.args.e in
     omega
-    (arith, c.assigned_at-value.ensures, assigned_order c.args.circuit.now column c.args.to (search rules), c.requires.1.0.given)
+    (arith, c.assigned_at-value.ensures, assigned_order c.args.circuit.now column c.args.to (search rules), c.requires.span.0.given)
 
 -- and so is the row
 row : (c : After-assigned_at-value) →
     Within 1 (row_of c.args.circuit.now c.args.start c.args.e) (rows c.args.circuit.now)
-row c = row_inside c.requires.0.1
+row c = row_inside c.requires.formed.1
 
 pub returns : goal.returns
 returns c =
@@ -56,13 +56,13 @@ returns c =
     c.args.out.now (search rules) (search rules)))
 
 pub bounds-out-row : goal.bounds-out-row
-bounds-out-row c = let here = row c in search rules
+bounds-out-row c = let here = row (goal.at.bounds-out-row c).After-assigned_at-value in search rules
 
 pub offset_bounds-values-value : goal.offset_bounds-values-value
-offset_bounds-values-value c = omega (arith, inside c)
+offset_bounds-values-value c = omega (arith, inside (goal.at.offset_bounds-values-value c).After-assigned_at-value)
 
 pub bounds-values-value : goal.bounds-values-value
-bounds-values-value c = inside c
+bounds-values-value c = inside (goal.at.bounds-values-value c).After-assigned_at-value
 
 pub bounds-out-row-2 : goal.bounds-out-row-2
-bounds-out-row-2 c = let here = row c in search rules
+bounds-out-row-2 c = let here = row (goal.at.bounds-out-row-2 c).After-assigned_at-value in search rules

@@ -1,7 +1,6 @@
 -- The two branches are the two cases of the definition.
 use mathlib.Core.Path.{sym}
 use native.Mathlib.Omega.{arith}
-use borrow.Author.Rules.{rules}
 use Rattle.assignment.proofs.Assigned.{public_at, private_at}
 use Rattle.rows.proofs.assigned_at.Goals as goal
 

@@ -1,18 +1,12 @@
-use mathlib.Core.List.{List}
 use mathlib.Core.Path.{◌≡◌, ◌∙◌, ap}
-use Prim.Native.Nat.{ℕ, suc, ◌*◌, ◌-◌, ◌%◌}
 use native.Mathlib.Omega.{arith}
 use borrow.Author.Rules.{rules}
-use lib.Dec.{eqb, lit<}
-use lib.ListN.{length}
-use Rattle.outcome.specs.declared.Outcome.{Outcome}
+use lib.Dec.{lit<}
 use Rattle.outcome.specs.Verdict.{require}
 use Rattle.outcome.proofs.Verdict.{is_accepted, is_refused, proper-require}
-use Rattle.outcome.proofs.Scan.{Passed, begin, go_on, stop, end}
-use Rattle.field.specs.Field.{p}
-use Rattle.circuit.specs.Circuit.{word}
+use Rattle.outcome.proofs.Scan.{begin, go_on, stop, end}
 use Rattle.rows.specs.Sums.{sums_verdict}
-use Rattle.rows.proofs.sums_verdict.Invariants.{each, Rows}
+use Rattle.rows.proofs.sums_verdict.Invariants.{each}
 use Rattle.rows.proofs.sums_verdict.Goals as goal
 use Rattle.rows.proofs.sums_verdict.Goals.{After-require-found}
 
@@ -24,15 +18,13 @@ found c = c.require-found.ensures ∙ rw c.times.ensures (ap (require _ 10) (ome
 pub returns-then-found-ne0 : goal.returns-then-found-ne0
 unfolding sums_verdict
 returns-then-found-ne0 c =
-    stop _ _ c.loop-i.invariant.passed (search rules) (is_refused (found c) c.if-found-ne0.true)
-    (found c)
+    let row = found (goal.at.returns-then-found-ne0 c).After-require-found in
+    stop _ _ c.loop-i.invariant.passed (search rules) (is_refused row c.if-found-ne0.true) row
 
 pub loop-i-preserved : goal.loop-i-preserved
 loop-i-preserved c =
-    record {
-      passed = go_on _ _ c.loop-i.invariant.passed (search rules)
-          (is_accepted (found c) c.if-found-ne0.false);
-    }
+    let row = found (goal.at.loop-i-preserved c).After-require-found in
+    record { passed = go_on _ _ c.loop-i.invariant.passed (search rules) (is_accepted row c.if-found-ne0.false) }
 
 pub returns : goal.returns
 unfolding sums_verdict

@@ -1,12 +1,11 @@
 -- Invariant: the rows passed hold. So a row that fails is the lowest.
 use mathlib.Core.List.{List}
-use mathlib.Core.Path.{◌≡◌, ◌∙◌, ap}
 use Prim.Native.Nat.{ℕ, suc, ◌*◌, ◌-◌, ◌%◌}
-use lib.Dec.{eqb, lit<}
+use lib.Dec.{eqb}
 use lib.ListN.{length}
 use Rattle.outcome.specs.declared.Outcome.{Outcome}
 use Rattle.outcome.specs.Verdict.{require}
-use Rattle.outcome.proofs.Scan.{Passed, begin, go_on, stop, end}
+use Rattle.outcome.proofs.Scan.{Passed}
 use Rattle.field.specs.Field.{p}
 use Rattle.circuit.specs.Circuit.{word}
 use Rattle.rows.proofs.sums_verdict.Given as goal

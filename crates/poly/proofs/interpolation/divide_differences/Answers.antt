@@ -7,7 +7,6 @@ use native.Mathlib.Omega.{arith}
 use borrow.Author.Rules.{rules}
 use lib.ListN.{length, take, drop, get_or, length-append, length-take, length-drop, drop_of_length-le}
 use lib.Seq.{drop-cons, take-suc, take_all, take_at, drop_at, length-take-le}
-use Rattle.algebra.specs.Polynomial.{Words}
 use Rattle.field.specs.Field.{p}
 use Rattle.poly.specs.Interpolation.{differences, newton}
 use Rattle.poly.proofs.Slices.{lent_back}

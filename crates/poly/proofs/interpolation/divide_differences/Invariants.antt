@@ -1,11 +1,11 @@
 -- Invariant: the words before `done` are Newton's coefficients, and those of the words from there on are still to be made of them.
-use mathlib.Core.Path.{◌≡◌, sym, ◌∙◌}
-use mathlib.Core.List.{List, ◌++◌, append_assoc, append-nil}
-use Prim.Native.Nat.{ℕ, suc, ◌+◌, ◌-◌, ◌≤◌, ◌<◌}
-use lib.ListN.{length, take, drop, get_or, length-append, length-take, length-drop, drop_of_length-le}
+use mathlib.Core.Path.{◌≡◌}
+use mathlib.Core.List.{◌++◌}
+use Prim.Native.Nat.{◌-◌, ◌≤◌}
+use lib.ListN.{length, take, drop}
 use Rattle.algebra.specs.Polynomial.{Words}
 use Rattle.field.specs.Field.{p}
-use Rattle.poly.specs.Interpolation.{differences, newton}
+use Rattle.poly.specs.Interpolation.{newton}
 use Rattle.poly.proofs.interpolation.divide_differences.Given as goal
 
 abbrev pub invariant-loop-done : goal.invariant-loop-done

@@ -1,8 +1,8 @@
 -- Invariant: the words from i on are in powers, and the words before i are the given ones.
-use mathlib.Core.Path.{◌≡◌, sym, ◌∙◌, ap}
-use mathlib.Core.List.{List, ◌∷◌, ◌++◌}
-use Prim.Native.Nat.{ℕ, suc, ◌+◌, ◌-◌, ◌≤◌, ◌<◌}
-use lib.ListN.{length, take, drop, get_or, length-append, length-take, length-drop, take-append-drop}
+use mathlib.Core.Path.{◌≡◌}
+use mathlib.Core.List.{◌++◌}
+use Prim.Native.Nat.{◌+◌, ◌-◌, ◌≤◌}
+use lib.ListN.{length, take, drop}
 use Rattle.field.specs.Field.{p}
 use Rattle.algebra.specs.Points.{consecutive}
 use Rattle.poly.specs.Interpolation.{powers}

@@ -11,7 +11,6 @@ use Rattle.poly.specs.Interpolation.{differences}
 use Rattle.slices.proofs.Front.{front-word, rest-kept}
 use Rattle.poly.proofs.Slices.{kept_word, kept-rest}
 use Rattle.poly.proofs.interpolation.subtract_and_divide.Goals as goal
-use Rattle.poly.proofs.interpolation.subtract_and_divide.Goals.{In-loop-i}
 
 step : (t v : List ℕ) (y i : ℕ) {w : ℕ} → i < length t → i < length v → w ≡ (get_or v i 0 + (p - y)) * get_or t i 0 % p →
     take (i + 1) (set v i w) ++ differences p (drop (i + 1) t) y (drop (i + 1) (set v i w)) ≡ take i v ++ differences p (drop i t) y (drop i v)
@@ -22,14 +21,12 @@ end : (t v : List ℕ) (y i : ℕ) → length v ≤ i → take i v ++ difference
 unfolding differences
 end t v y i h = rw (drop_of_length-le v h, append-nil, take_all i v h)
 
-below : (c : In-loop-i) → get_or c.loop-i.v c.loop-i.i 0 < p
-below c =
+pub overflow_add-v : goal.overflow_add-v
+overflow_add-v c =
     let now = c.loop-i in
     let given = c.args.v.now in
-    rw (kept_word now.v given now.i now.invariant.2 (omega arith) (omega arith)) (c.requires.2.below now.i (omega arith))
-
-pub overflow_add-v : goal.overflow_add-v
-overflow_add-v c = omega (arith, below c)
+    let same : get_or now.v now.i 0 ≡ get_or given now.i 0 = kept_word now.v given now.i now.invariant.2 (omega arith) (omega arith) in
+    omega (arith, c.requires.2.below now.i (omega arith))
 
 pub loop-i-preserved : goal.loop-i-preserved
 loop-i-preserved c =

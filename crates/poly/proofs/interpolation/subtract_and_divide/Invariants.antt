@@ -1,8 +1,8 @@
 -- Invariant: the words before i are done; those from i on are the given ones.
-use mathlib.Core.Path.{◌≡◌, sym, ◌∙◌}
-use mathlib.Core.List.{List, ◌++◌, append-nil}
-use Prim.Native.Nat.{ℕ, ◌+◌, ◌*◌, ◌-◌, ◌≤◌, ◌<◌, ◌%◌}
-use lib.ListN.{length, take, drop, set, get_or, length-set, drop_of_length-le}
+use mathlib.Core.Path.{◌≡◌}
+use mathlib.Core.List.{◌++◌}
+use Prim.Native.Nat.{◌-◌, ◌≤◌}
+use lib.ListN.{length, take, drop}
 use Rattle.field.specs.Field.{p}
 use Rattle.poly.specs.Interpolation.{differences}
 use Rattle.poly.proofs.interpolation.subtract_and_divide.Given as goal
