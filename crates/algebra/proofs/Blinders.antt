@@ -1,6 +1,6 @@
 -- Demand 3's bijection, through any list of query points: at distinct points where the target is not 0, exactly one blinder of as
 -- many words makes A' take given values there. It is the list through (v − A) / Z at those points. RULES 5.
-use mathlib.Core.Path.{◌≡◌, sym}
+use mathlib.Core.Path.{◌≡◌}
 use mathlib.Core.List.{List}
 use Prim.Native.Nat.{ℕ, ◌+◌, ◌*◌, ◌<◌}
 use native.Mathlib.Decide.{dec_lt}
@@ -11,7 +11,7 @@ use Rattle.algebra.specs.Prime.{Prime}
 use Rattle.algebra.specs.Polynomial.{value}
 use Rattle.algebra.specs.Points.{Distinct, Through, target}
 use Rattle.algebra.specs.Blinding.{Blinds, blinded}
-use Rattle.algebra.proofs.Congruence.{≈_refl, ≈_sym, ≈_trans, ≈-plus, ≈-times, ≈-eq, by}
+use Rattle.algebra.proofs.Congruence.{≈_refl, ≈_sym, ≈_trans, ≈-plus, ≈-times, by}
 use Rattle.algebra.proofs.Inverse.{solve, cancel}
 use Rattle.algebra.proofs.Polynomial.{value-sum, value-product}
 use Rattle.algebra.proofs.Interpolation.{interpolation, interpolation_unique}

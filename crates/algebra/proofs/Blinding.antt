@@ -1,8 +1,8 @@
 -- Blinding: A'B' − C' = Z H' has a solution exactly where A B − C is 0 at all points; it is the only one of its length,
 -- equals H + d1 B + d2 A + d1 d2 Z − d3, and with blinders 0 the words past the plain quotient's are 0. RULES 4.
-use mathlib.Core.Path.{◌≡◌, sym, ◌∙◌, ap}
+use mathlib.Core.Path.{◌≡◌, sym, ◌∙◌}
 use mathlib.Core.List.{List, [], ◌∷◌}
-use Prim.Native.Nat.{ℕ, zero, suc, ◌+◌, ◌*◌, ◌-◌, ◌<◌, ◌≤◌}
+use Prim.Native.Nat.{ℕ, suc, ◌+◌, ◌*◌, ◌-◌, ◌<◌, ◌≤◌}
 use native.Mathlib.Omega.{arith}
 use lib.ListN.{length, get_or, get_or-eq_default}
 use Rattle.algebra.specs.Congruence.{◌≈⟨◌⟩◌}
@@ -10,7 +10,7 @@ use Rattle.algebra.specs.Prime.{Prime}
 use Rattle.algebra.specs.Polynomial.{value, sum, product, reduced, ◌≋⟨◌⟩◌}
 use Rattle.algebra.specs.Points.{Distinct, Vanishes, target}
 use Rattle.algebra.specs.Blinding.{Holds, Divides, PlainQuotient, BlindedQuotient, blinded, blinded_sum, quotient_size}
-use Rattle.algebra.proofs.Congruence.{≈_sym, ≈-plus, ≈-times, ≈-negative, ≈-eq, ≈-words, by}
+use Rattle.algebra.proofs.Congruence.{≈_sym, ≈-plus, ≈-times, ≈-negative, ≈-words, by}
 use Rattle.algebra.proofs.Pairing.{pairing, pairings, by_pairings, pairing-sum, pairing-multiple}
 use Rattle.algebra.proofs.Inverse.{positive}
 use Rattle.algebra.proofs.Polynomial.{length-sum, length-multiple, length-product, length-product_most, length-reduced, value-sum, value-product}

@@ -2,7 +2,7 @@
 -- A'(s), B'(s), C'(s), and the answer check's equality is that of the quotient at s. RULES 5.
 use mathlib.Core.Path.{◌≡◌, sym}
 use mathlib.Core.List.{List}
-use Prim.Native.Nat.{ℕ, suc, ◌+◌, ◌*◌, ◌-◌, ◌%◌, ◌≤◌}
+use Prim.Native.Nat.{ℕ, suc, ◌+◌, ◌*◌, ◌-◌, ◌%◌}
 use native.Mathlib.Nat.{le_of_eq}
 use native.Mathlib.Omega.{arith}
 use Rattle.algebra.specs.Congruence.{◌≈⟨◌⟩◌}
@@ -15,7 +15,7 @@ use Rattle.algebra.proofs.Roots.{same-values}
 use Rattle.algebra.proofs.Combination.{total-≈}
 use Rattle.algebra.proofs.Blinding.{divides-value}
 use Rattle.algebra.proofs.Blinders.{blinded-value}
-use Rattle.circuit.specs.Circuit.{publics, columns}
+use Rattle.circuit.specs.Circuit.{publics}
 use Rattle.rows.specs.Rows.{row_sum}
 use Rattle.rows.proofs.Parts.{parts_whole}
 use Rattle.circuit.specs.WellFormed.{Formed}

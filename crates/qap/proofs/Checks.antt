@@ -8,7 +8,7 @@ use native.Mathlib.Nat.{mod-lt}
 use native.Mathlib.Decide.{ℕ_discrete}
 use native.Mathlib.Omega.{arith}
 use lib.Dec.{lit<}
-use lib.ListN.{length, get_or, take}
+use lib.ListN.{get_or, take}
 use lib.Seq.{ext_get_or}
 use Rattle.outcome.specs.declared.Outcome.{Outcome}
 use Rattle.outcome.specs.Verdict.{Accepted, Refused, fine}
@@ -23,7 +23,7 @@ use Rattle.rows.specs.Rows.{rows_verdict}
 use Rattle.rows.proofs.Holds.{accepted-holds, holds-accepted}
 use Rattle.circuit.specs.WellFormed.{Formed}
 use Rattle.qap.specs.Setting.{Setting, Sound}
-use Rattle.qap.specs.Polynomials.{target_of, quotient_length, IsQuotient}
+use Rattle.qap.specs.Polynomials.{target_of, IsQuotient}
 use Rattle.qap.specs.Answers.{IsAnswers, AnswersAgree, CandidateDivides}
 use Rattle.qap.specs.Refusals.{answer_words, check_answers_verdict, check_division_verdict}
 use Rattle.qap.specs.Calls.{AnswersCall, CheckAnswersCall, CheckDivisionCall}

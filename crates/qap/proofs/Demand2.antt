@@ -1,7 +1,7 @@
 -- Demand 2 over the definitions: the quotient's formula, and its last words with blinders 0. RULES 4.
 use mathlib.Core.Path.{◌≡◌, refl}
 use mathlib.Core.List.{List, []}
-use Prim.Native.Nat.{ℕ, zero, suc, ◌-◌, ◌<◌, ◌≤◌}
+use Prim.Native.Nat.{ℕ, zero, suc, ◌<◌, ◌≤◌}
 use lib.Dec.{lit<}
 use lib.ListN.{length, get_or}
 use Rattle.algebra.specs.Congruence.{◌≈⟨◌⟩◌}

@@ -2,9 +2,9 @@
 -- field point on no row: any three field values are the first three answers under exactly one blinder triple, the fourth follows
 -- from circuit, public values, point and those three, and assignments with equal public values cannot be told apart.
 -- Each blinder is the list through what it must take at the query points, of which there is one.
-use mathlib.Core.Path.{◌≡◌, refl, sym, ◌∙◌, ap}
+use mathlib.Core.Path.{◌≡◌, refl, ap}
 use mathlib.Core.List.{List, [], ◌∷◌}
-use Prim.Native.Nat.{ℕ, zero, suc, ◌+◌, ◌*◌, ◌%◌, ◌<◌, ◌≤◌}
+use Prim.Native.Nat.{ℕ, zero, suc, ◌+◌, ◌*◌, ◌%◌, ◌<◌}
 use native.Mathlib.Nat.{mod-lt}
 use native.Mathlib.Omega.{arith}
 use lib.Dec.{lit<}
@@ -21,7 +21,7 @@ use Rattle.circuit.specs.Circuit.{publics, columns}
 use Rattle.circuit.specs.WellFormed.{Formed}
 use Rattle.rows.specs.Rows.{RowsHold}
 use Rattle.qap.specs.Setting.{Setting, Sound, points_of}
-use Rattle.qap.specs.Polynomials.{PrivatePart, target_of, blinder_a, blinder_b, blinder_c, blinder_words}
+use Rattle.qap.specs.Polynomials.{PrivatePart, target_of, blinder_words}
 use Rattle.qap.specs.Answers.{IsAnswers}
 use Rattle.qap.specs.Demands.{Exactly, FirstThree, Answered, IsFourth, SamePublic}
 use Rattle.qap.specs.declared.Blinders.{Blinders}

@@ -1,30 +1,25 @@
 -- The promises of specs/Promises.antt, each by one theorem, for every sound setting; and all of them for the setting of the calls.
-use mathlib.Core.Path.{◌≡◌, refl, sym, ◌∙◌, ap}
+use mathlib.Core.Path.{◌≡◌, sym, ◌∙◌}
 use mathlib.Core.List.{List}
 use mathlib.Core.Logic.{⊎_elim}
 use Prim.Native.Nat.{ℕ}
-use native.Mathlib.Omega.{arith}
 use borrow.Author.Tests.{eq-eqb}
-use lib.Dec.{lit<}
 use lib.ListN.{length}
 use Rattle.outcome.specs.declared.Outcome.{Outcome}
-use Rattle.outcome.specs.Verdict.{outcome, fine, Accepted, Refused}
+use Rattle.outcome.specs.Verdict.{fine, Accepted, Refused}
 use Rattle.outcome.proofs.Verdict.{accepted-fine, accepted-both, accepted_or_refused, accepted-require, not_both, Proper}
 use Rattle.algebra.specs.Polynomial.{Words}
 use Rattle.circuit.specs.WellFormed.{Formed}
 use Rattle.circuit.proofs.Formed.{circuit-formed}
 use Rattle.assignment.proofs.Accepted.{words-accepted}
-use Rattle.rows.specs.Rows.{RowsHold}
-use Rattle.rows.proofs.Holds.{accepted-holds}
 use Rattle.qap.specs.Setting.{Setting, Sound, standard}
-use Rattle.qap.specs.Polynomials.{quotient_length, IsQuotient}
-use Rattle.qap.specs.Answers.{CandidateDivides}
+use Rattle.qap.specs.Polynomials.{quotient_length}
 use Rattle.qap.specs.Refusals.{length_verdict, ready_verdict, check_division_verdict}
 use Rattle.qap.specs.Calls.{Filled, CheckDivisionCall}
 use Rattle.qap.specs.Demands.{Satisfied}
-use Rattle.qap.specs.Promises.{Keeps, Fills, Determines, RefusalsKept, ResultsRight, QuotientGiven, QuotientFormula, DivisionChecked, TabletAccepts, TellsNothing, OneResult, Promises}
+use Rattle.qap.specs.Promises.{Keeps, Fills, RefusalsKept, ResultsRight, QuotientGiven, QuotientFormula, DivisionChecked, TabletAccepts, TellsNothing, OneResult, Promises}
 use Rattle.qap.specs.declared.Blinders.{Blinders}
-use Rattle.qap.proofs.Settings.{ready, answers_ready, quotient_ready}
+use Rattle.qap.proofs.Settings.{ready}
 use Rattle.qap.proofs.PlaceZero.{proper-target, proper-column, proper-columns, proper-quotient}
 use Rattle.qap.proofs.Standard.{sound}
 use Rattle.qap.proofs.Quotients.{quotient-holds, candidate-quotient}

@@ -4,7 +4,7 @@ use mathlib.Core.Path.{◌≡◌, refl}
 use mathlib.Core.List.{List}
 use Prim.Native.Nat.{ℕ, zero, suc, ◌+◌, ◌*◌, ◌%◌, ◌<◌, ◌≤◌}
 use native.Mathlib.Omega.{arith}
-use lib.ListN.{length, get_or}
+use lib.ListN.{length}
 use lib.Dec.{lit<}
 use Rattle.algebra.specs.Polynomial.{Words, value}
 use Rattle.algebra.specs.Points.{Through}
@@ -20,7 +20,7 @@ use Rattle.qap.specs.Polynomials.{Whole, target_of, quotient_length, blinder_a, 
 use Rattle.qap.specs.Answers.{IsAnswers, CandidateDivides}
 use Rattle.qap.specs.declared.Blinders.{Blinders}
 use Rattle.qap.specs.declared.FourAnswers.{FourAnswers}
-use Rattle.qap.proofs.Settings.{prime, p_positive, distinct-points, listed-points, some_points}
+use Rattle.qap.proofs.Settings.{prime, p_positive, distinct-points, listed-points}
 use Rattle.qap.proofs.Parts.{part-through, part_exists, part_unique}
 
 module _ {S : Setting} (sound : Sound S) {c : List ℕ} (formed : Formed S.p c) (a : List ℕ) where

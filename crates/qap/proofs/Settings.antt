@@ -18,7 +18,7 @@ use Rattle.algebra.proofs.Congruence.{≈-words}
 use Rattle.algebra.proofs.Inverse.{positive}
 use Rattle.algebra.proofs.Target.{target-only}
 use Rattle.algebra.proofs.Among.{among_at}
-use Rattle.circuit.specs.Circuit.{listed_rows, rows, publics, columns}
+use Rattle.circuit.specs.Circuit.{listed_rows, rows}
 use Rattle.circuit.specs.Reader.{circuit_verdict}
 use Rattle.circuit.specs.WellFormed.{Formed}
 use Rattle.circuit.proofs.Rows.{listed_rows_lem, row_range}

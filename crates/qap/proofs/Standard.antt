@@ -3,12 +3,12 @@
 use mathlib.Core.Bool.{Bool, true, false}
 use mathlib.Core.List.{List}
 use mathlib.Core.Path.{◌≡◌, refl, sym}
-use Prim.Native.Nat.{ℕ, ◌+◌, ◌-◌, ◌≤◌, ◌<◌}
+use Prim.Native.Nat.{ℕ, ◌+◌, ◌-◌, ◌<◌}
 use native.Mathlib.Nat.{le_of_eq}
 use native.Mathlib.Omega.{arith}
 use lib.ListN.{length, get_or}
 use Rattle.outcome.specs.Verdict.{Accepted, Within, within}
-use Rattle.outcome.proofs.Verdict.{apart, within_true, true_within}
+use Rattle.outcome.proofs.Verdict.{within_true, true_within}
 use Rattle.algebra.specs.Prime.{FieldPrime}
 use Rattle.algebra.specs.Points.{row_points, among}
 use Rattle.algebra.proofs.Consecutive.{length-row_points, row_points_at, distinct-row_points}

@@ -2,7 +2,7 @@
 -- (circuit from the front, then 6, 7, 9, 12, 11, 8, 10), RULES 6. 13 is a check's own (specs/Calls.antt).
 use Rattle.std.specs.Prelude.{not, List, [], ◌∷◌, ℕ, ◌+◌, ◌*◌, ◌-◌, leb, eqb, length}
 use Rattle.outcome.specs.declared.Outcome.{Outcome}
-use Rattle.outcome.specs.Verdict.{require, within, ◌and_then◌, first_fault}
+use Rattle.outcome.specs.Verdict.{require, within, ◌and_then◌}
 use Rattle.algebra.specs.Points.{among}
 use Rattle.circuit.specs.Circuit.{columns}
 use Rattle.circuit.specs.Reader.{circuit_verdict}

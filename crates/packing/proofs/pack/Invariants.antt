@@ -1,8 +1,8 @@
 -- Invariant: the bytes before 4 i, with those of the words left, are the bytes of all words.
-use mathlib.Core.Path.{◌≡◌, ◌∙◌}
-use mathlib.Core.List.{List, [], ◌∷◌, ◌++◌, append-nil, append_assoc}
-use Prim.Native.Nat.{ℕ, ◌+◌, ◌*◌, ◌-◌, ◌≤◌, ◌<◌}
-use lib.ListN.{length, take, drop, get_or, length-append, drop_of_length-le}
+use mathlib.Core.Path.{◌≡◌}
+use mathlib.Core.List.{◌++◌}
+use Prim.Native.Nat.{◌*◌, ◌-◌, ◌≤◌}
+use lib.ListN.{length, take, drop}
 use Rattle.packing.specs.Packing.{packed}
 use Rattle.packing.proofs.pack.Given as goal
 

@@ -1,7 +1,6 @@
 -- Four stores make the run of the word's four bytes.
 use native.Mathlib.Numerals.{add-one, add-two, add-three}
 use native.Mathlib.Omega.{arith}
-use borrow.Author.Rules.{rules}
 use lib.ListN.{length-set}
 use Rattle.packing.specs.Packing.{packed}
 use Rattle.packing.proofs.put_word.Goals as goal

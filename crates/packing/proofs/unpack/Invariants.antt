@@ -1,9 +1,9 @@
 -- Invariant: the words before i, with those that the bytes left hold, are the words of all bytes.
-use mathlib.Core.Path.{◌≡◌, ◌∙◌}
-use mathlib.Core.List.{List, ◌++◌, append-nil, append_assoc}
-use Prim.Native.Nat.{ℕ, ◌+◌, ◌*◌, ◌-◌, ◌≤◌, ◌<◌}
-use lib.ListN.{length, take, drop, set, length-set, drop_of_length-le}
-use Rattle.packing.specs.Packing.{word_at, unpacked}
+use mathlib.Core.Path.{◌≡◌}
+use mathlib.Core.List.{◌++◌}
+use Prim.Native.Nat.{◌*◌, ◌-◌, ◌≤◌}
+use lib.ListN.{length, take, drop}
+use Rattle.packing.specs.Packing.{unpacked}
 use Rattle.packing.proofs.unpack.Given as goal
 
 abbrev pub invariant-loop-i : goal.invariant-loop-i

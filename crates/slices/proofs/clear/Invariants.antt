@@ -1,8 +1,8 @@
 -- Invariant: the words before i are 0, and those from i on are the given ones.
 use mathlib.Core.Path.{◌≡◌}
-use mathlib.Core.List.{◌++◌, append-nil}
+use mathlib.Core.List.{◌++◌}
 use Prim.Native.Nat.{◌-◌, ◌≤◌}
-use lib.ListN.{length, drop, replicate, length-set}
+use lib.ListN.{length, drop, replicate}
 use Rattle.slices.proofs.clear.Given as goal
 
 abbrev pub invariant-loop-i : goal.invariant-loop-i

@@ -1,8 +1,8 @@
 -- Invariant: the words before i are src's, so with the rest of src behind them they make src.
-use mathlib.Core.Path.{◌≡◌, ◌∙◌}
-use mathlib.Core.List.{List, ◌++◌, append-nil}
-use Prim.Native.Nat.{ℕ, ◌+◌, ◌-◌, ◌≤◌, ◌<◌}
-use lib.ListN.{length, take, drop, set, get_or, length-set, drop_of_length-le}
+use mathlib.Core.Path.{◌≡◌}
+use mathlib.Core.List.{◌++◌}
+use Prim.Native.Nat.{◌-◌, ◌≤◌}
+use lib.ListN.{length, take, drop}
 use Rattle.slices.proofs.copy.Given as goal
 
 abbrev pub invariant-loop-i : goal.invariant-loop-i
