@@ -1,3 +1,4 @@
+-- A word below p passes one place more; one that is not is the first fault.
 use mathlib.Core.Path.{◌∙◌}
 use borrow.Author.Rules.{rules}
 use Rattle.outcome.proofs.Verdict.{is_accepted, is_refused, proper-require}

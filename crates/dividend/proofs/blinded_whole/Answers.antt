@@ -1,7 +1,6 @@
 -- The row sums stand in front of the word of room when the list is blinded.
 use mathlib.Core.Path.{sym, ◌∙◌}
 use native.Mathlib.Omega.{arith}
-use borrow.Author.Rules.{rules}
 use lib.Seq.{length-take-le}
 use Rattle.circuit.proofs.Rows.{row_range}
 use Rattle.field.proofs.PrimeField.{field_prime}

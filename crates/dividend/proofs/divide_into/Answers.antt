@@ -3,7 +3,6 @@ use mathlib.Core.Path.{◌≡◌, ◌∙◌}
 use mathlib.Core.List.{List}
 use Prim.Native.Nat.{ℕ, ◌+◌, ◌-◌}
 use native.Mathlib.Omega.{arith}
-use borrow.Author.Rules.{rules}
 use lib.ListN.{length, take, drop, length-drop}
 use lib.Seq.{take_all}
 use Rattle.field.specs.Field.{p}
@@ -18,4 +17,4 @@ rest low work w out n size divided copied =
 
 pub returns : goal.returns
 returns c =
-    rest _ _ c.divide.new.0 _ _ (omega arith) c.divide.ensures c.copy.ensures
+    rest _ _ c.divide.new.room _ _ (omega arith) c.divide.ensures c.copy.ensures

@@ -1,5 +1,4 @@
 -- The product, and then minus one times c added.
-use borrow.Author.Rules.{rules}
 use Rattle.dividend.specs.Dividend.{dividend_of}
 use Rattle.dividend.proofs.dividend_of.Goals as goal
 

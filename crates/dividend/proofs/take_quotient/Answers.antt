@@ -3,7 +3,6 @@ use mathlib.Core.Path.{◌≡◌, sym, ◌∙◌, ap}
 use mathlib.Core.List.{List}
 use Prim.Native.Nat.{ℕ, ◌+◌, ◌-◌, ◌≤◌}
 use native.Mathlib.Omega.{arith}
-use borrow.Author.Rules.{rules}
 use lib.ListN.{length, take, drop}
 use lib.Seq.{length-take-le}
 use Rattle.algebra.specs.Points.{row_points, target}
@@ -39,9 +38,7 @@ divide_into-requires c =
     omega arith
 
 pub returns : goal.returns
-returns c =
-    let start = c.before in
-    divided start.args.m start.args.dividend _ _ start.requires.is_target (omega arith) (omega arith) (omega arith) c.divide_into.ensures
+returns c = divided c.args.m c.args.dividend _ _ c.requires.is_target (omega arith) (omega arith) (omega arith) c.divide_into.ensures
 
 pub slice_bounds-divide_into-end-2 : goal.slice_bounds-divide_into-end-2
 slice_bounds-divide_into-end-2 c = sym (size_low _ c.requires.is_target)

@@ -1,48 +1,43 @@
 -- The row sums lie in the front of a room, as many as there are basis values.
-use mathlib.Core.Path.{sym, ◌∙◌}
+use mathlib.Core.List.{List}
+use mathlib.Core.Path.{◌≡◌, sym, ◌∙◌}
+use Prim.Native.Nat.{ℕ}
 use native.Mathlib.Omega.{arith}
-use borrow.Author.Rules.{rules}
 use lib.ListN.{length}
-use Rattle.slices.proofs.Rooms.{Front, Back, front, back}
+use Rattle.slices.specs.Zeros.{zeros}
+use Rattle.slices.proofs.Rooms.{Front, back, front}
 use Rattle.circuit.proofs.Rows.{row_range}
+use Rattle.field.specs.Field.{p}
 use Rattle.field.proofs.PrimeField.{field_prime}
+use Rattle.evaluation.specs.Values.{PartGiven}
 use Rattle.evaluation.proofs.PartValues.{part_at}
 use Rattle.evaluation.proofs.part_value.Goals as goal
-use Rattle.evaluation.proofs.part_value.Goals.{After-room-sums, After-row_sums}
 
-abbrev start : (c : After-room-sums) → tie.Start
-start c = c
+lent : {c a basis room : List ℕ} {matrix from to : ℕ} → PartGiven p c a matrix from to basis → room ≡ zeros 257 → Front (length basis) room
+lent given is-room = front _ 257 (omega (arith, given.size, (row_range given.circuit).at_most)) is-room
 
-lent : (c : After-room-sums) → Front (length (start c).args.basis.now) c.room-sums.result
-lent c =
-    let given = (start c).requires in
-    front _ 257 (omega (arith, given.size, (row_range given.circuit).at_most)) c.room-sums.ensures
+pub slice_bounds-sums-end : goal.slice_bounds-sums-end
+slice_bounds-sums-end c = (lent c.requires c.room-sums.ensures).fits
 
-made : (c : After-row_sums) →
-    Back (length (start c).args.basis.now) c.room-sums.result c.row_sums.new.1.1.1.1.1.0
-made c = back _ (lent c) c.row_sums.auto.1.1.1.1.1.0
+pub slice_bounds-row_sums-end : goal.slice_bounds-row_sums-end
+slice_bounds-row_sums-end c = (lent c.requires c.room-sums.ensures).size
 
 pub row_sums-requires : goal.row_sums-requires
 row_sums-requires c =
-    let given = (start c).requires in
-    (record { circuit = given.circuit; of_three = given.of_three; size = sym (lent c).size ∙ given.size }, given.span)
+    let given = c.requires in
+    (record { circuit = given.circuit; of_three = given.of_three; size = sym (lent given c.room-sums.ensures).size ∙ given.size }, given.span)
+
+pub slice_bounds-sums-end-2 : goal.slice_bounds-sums-end-2
+slice_bounds-sums-end-2 c = (back _ (lent c.requires c.room-sums.ensures) c.row_sums.auto.out).fits
+
+pub slice_bounds-dot-end : goal.slice_bounds-dot-end
+slice_bounds-dot-end c = (back _ (lent c.requires c.room-sums.ensures) c.row_sums.auto.out).size
+
+pub dot-requires : goal.dot-requires
+dot-requires c = sym (back _ (lent c.requires c.room-sums.ensures) c.row_sums.auto.out).size
 
 pub returns : goal.returns
 returns c =
-    let given = (start c.before).requires in
-    record { at = part_at field_prime _ _ _ _ _ given.circuit _ _ ((made c).words ∙ c.row_sums.ensures) c.dot.ensures }
-
-pub slice_bounds-sums-end : goal.slice_bounds-sums-end
-slice_bounds-sums-end c = (lent c).ranges
-
-pub slice_bounds-row_sums-end : goal.slice_bounds-row_sums-end
-slice_bounds-row_sums-end c = (lent c).size
-
-pub slice_bounds-sums-end-2 : goal.slice_bounds-sums-end-2
-slice_bounds-sums-end-2 c = (made c).fits
-
-pub slice_bounds-dot-end : goal.slice_bounds-dot-end
-slice_bounds-dot-end c = (made c).size
-
-pub dot-requires : goal.dot-requires
-dot-requires c = sym (made c).size
+    let given = c.requires in
+    let made = back _ (lent given c.room-sums.ensures) c.row_sums.auto.out in
+    record { at = part_at field_prime _ _ _ _ _ given.circuit _ _ (made.words ∙ c.row_sums.ensures) c.dot.ensures }

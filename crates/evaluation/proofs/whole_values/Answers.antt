@@ -1,5 +1,4 @@
 -- Row sums times basis values, each with its multiple of z added.
-use borrow.Author.Rules.{rules}
 use Rattle.field.proofs.PrimeField.{field_prime}
 use Rattle.evaluation.proofs.BlindedValues.{whole_at}
 use Rattle.evaluation.proofs.whole_values.Goals as goal
@@ -13,6 +12,6 @@ returns c =
       at = λ k v s formed sums basis. record {
         first = whole_at field_prime 0 d.first s z _ _ formed basis sums.first c.dot-whole_a.ensures c.add_scaled.ensures;
         second = whole_at field_prime 1 d.second s z _ _ formed basis sums.second c.dot-whole_b.ensures c.add_scaled-2.ensures;
-        c = whole_at field_prime 2 d.third s z _ _ formed basis sums.third c.dot-whole_c.ensures c.add_scaled-3.ensures;
+        third = whole_at field_prime 2 d.third s z _ _ formed basis sums.third c.dot-whole_c.ensures c.add_scaled-3.ensures;
       };
     }

@@ -1,3 +1,4 @@
+-- A section of a formed circuit has its count and its few entries: so each index is inside, and the next section's start fits.
 use mathlib.Core.Path.{refl, ◌∙◌, ap}
 use native.Mathlib.Nat.{le_antisymm}
 use native.Mathlib.Omega.{arith}

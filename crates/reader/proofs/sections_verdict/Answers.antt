@@ -1,3 +1,4 @@
+-- A check passed gives the count or the entries that it asked for; a check failed is its section's first fault, and so the first of all.
 use mathlib.Core.List.{List}
 use mathlib.Core.Path.{◌≡◌, sym, ◌∙◌}
 use Prim.Native.Nat.{ℕ, ◌+◌, ◌≤◌, ◌<◌}

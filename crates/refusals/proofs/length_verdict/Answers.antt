@@ -1,5 +1,4 @@
 -- One check.
-use borrow.Author.Rules.{rules}
 use Rattle.qap.specs.Refusals.{length_verdict}
 use Rattle.refusals.proofs.length_verdict.Goals as goal
 

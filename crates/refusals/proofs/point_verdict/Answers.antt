@@ -1,6 +1,5 @@
 -- The checks in their order; a point of the standard setting is one of 1 to m.
 use native.Mathlib.Omega.{arith}
-use borrow.Author.Rules.{rules}
 use Rattle.outcome.proofs.Chain.{chained}
 use Rattle.circuit.proofs.Rows.{row_range}
 use Rattle.qap.specs.Refusals.{point_verdict}
@@ -10,7 +9,7 @@ use Rattle.refusals.proofs.point_verdict.Goals as goal
 pub returns : goal.returns
 unfolding point_verdict
 returns c =
-    rw (among-rows _ _) (rw (← c.rows_of_lem.ensures) (search chained depth 16))
+    rw (among-rows _ _) (rw (← c.rows_of-m.ensures) (search chained depth 16))
 
 pub overflow_cast-m : goal.overflow_cast-m
-overflow_cast-m c = omega (arith, c.rows_of_lem.ensures, (row_range c.requires).at_most)
+overflow_cast-m c = omega (arith, c.rows_of-m.ensures, (row_range c.requires).at_most)

@@ -1,5 +1,4 @@
 -- The checks in their order; the assignment is judged beside a circuit that was accepted.
-use borrow.Author.Rules.{rules}
 use Rattle.outcome.proofs.Chain.{chained, called, called-refused}
 use Rattle.outcome.proofs.Verdict.{is_accepted}
 use Rattle.circuit.proofs.Formed.{circuit-formed}

@@ -1,49 +1,42 @@
 -- The first m words of three rooms are lent for the row sums.
-use mathlib.Core.Path.{sym, ◌∙◌}
-use Prim.Native.Nat.{◌≤◌}
+use mathlib.Core.List.{List}
+use mathlib.Core.Path.{◌≡◌, sym, ◌∙◌}
+use Prim.Native.Nat.{ℕ}
 use native.Mathlib.Omega.{arith}
-use borrow.Author.Rules.{rules}
-use Rattle.circuit.specs.Limits.{most_rows}
-use Rattle.slices.proofs.Rooms.{Front, front}
+use Rattle.circuit.specs.Circuit.{rows}
+use Rattle.circuit.specs.WellFormed.{Formed}
 use Rattle.circuit.proofs.Rows.{row_range}
+use Rattle.field.specs.Field.{p}
+use Rattle.slices.specs.Zeros.{zeros}
+use Rattle.slices.proofs.Rooms.{Front, front}
 use Rattle.refusals.proofs.rows_verdict.Goals as goal
-use Rattle.refusals.proofs.rows_verdict.Goals.{After-room-a, After-room-b, After-room-c, After-rows_of-m}
 
-few : (c : After-rows_of-m) → c.rows_of_lem.result ≤ most_rows
-few c = omega (arith, c.rows_of_lem.ensures, (row_range c.requires.0).at_most)
-
-a-front : (c : After-room-a) → Front c.rows_of_lem.result c.room-a.result
-a-front c = front _ _ (omega (arith, few c)) c.room-a.ensures
-
-b-front : (c : After-room-b) → Front c.rows_of_lem.result c.room-b.result
-b-front c = front _ _ (omega (arith, few c)) c.room-b.ensures
-
-c-front : (c : After-room-c) → Front c.rows_of_lem.result c.room-c.result
-c-front c = front _ _ (omega (arith, few c)) c.room-c.ensures
+lent : {c room : List ℕ} {m : ℕ} → Formed p c → m ≡ rows c → room ≡ zeros 257 → Front m room
+lent formed counted is-room = front _ _ (omega (arith, counted, (row_range formed).at_most)) is-room
 
 pub rows_verdict-requires : goal.rows_verdict-requires
 rows_verdict-requires c =
-    let m = c.before in
-    let start = m.before.before.before in
-    let counted = m.rows_of_lem.ensures in (
-      start.requires,
-      (sym (a-front c.before).size ∙ counted, sym (b-front c.before).size ∙ counted, sym (c-front c).size ∙ counted),
-    )
+    let counted = c.rows_of-m.ensures in
+    let size = λ (room : List ℕ) (e : room ≡ zeros 257). sym (lent c.requires.0 counted e).size ∙ counted in
+    record {
+      formed = c.requires;
+      a_len = (size _ c.room-a.ensures, size _ c.room-b.ensures, size _ c.room-c.ensures);
+    }
 
 pub slice_bounds-a-end : goal.slice_bounds-a-end
-slice_bounds-a-end c = (a-front c).fits
+slice_bounds-a-end c = (lent c.requires.0 c.rows_of-m.ensures c.room-a.ensures).fits
 
 pub slice_bounds-rows_verdict-end : goal.slice_bounds-rows_verdict-end
-slice_bounds-rows_verdict-end c = (a-front c).size
+slice_bounds-rows_verdict-end c = (lent c.requires.0 c.rows_of-m.ensures c.room-a.ensures).size
 
 pub slice_bounds-b-end : goal.slice_bounds-b-end
-slice_bounds-b-end c = (b-front c).fits
+slice_bounds-b-end c = (lent c.requires.0 c.rows_of-m.ensures c.room-b.ensures).fits
 
 pub slice_bounds-rows_verdict-end-2 : goal.slice_bounds-rows_verdict-end-2
-slice_bounds-rows_verdict-end-2 c = (b-front c).size
+slice_bounds-rows_verdict-end-2 c = (lent c.requires.0 c.rows_of-m.ensures c.room-b.ensures).size
 
 pub slice_bounds-c-end : goal.slice_bounds-c-end
-slice_bounds-c-end c = (c-front c).fits
+slice_bounds-c-end c = (lent c.requires.0 c.rows_of-m.ensures c.room-c.ensures).fits
 
 pub slice_bounds-rows_verdict-end-3 : goal.slice_bounds-rows_verdict-end-3
-slice_bounds-rows_verdict-end-3 c = (c-front c).size
+slice_bounds-rows_verdict-end-3 c = (lent c.requires.0 c.rows_of-m.ensures c.room-c.ensures).size

@@ -1,3 +1,4 @@
+-- Adding entry e makes the sums over the first e entries those over one more.
 use mathlib.Core.List.{List}
 use mathlib.Core.Path.{◌≡◌, sym, ◌∙◌, ap}
 use Prim.Native.Nat.{ℕ, ◌+◌, ◌<◌}

@@ -1,3 +1,4 @@
+-- A row that holds passes one place more; one that fails is the first fault.
 use mathlib.Core.Path.{◌≡◌, ◌∙◌, ap}
 use native.Mathlib.Omega.{arith}
 use borrow.Author.Rules.{rules}

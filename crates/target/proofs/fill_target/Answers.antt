@@ -3,7 +3,6 @@ use mathlib.Core.Path.{◌≡◌, ◌∙◌}
 use Prim.Native.Nat.{◌-◌}
 use native.Mathlib.Omega.{arith}
 use lib.ListN.{length}
-use borrow.Author.Rules.{rules}
 use Rattle.field.specs.Field.{p}
 use Rattle.qap.proofs.Standard.{target-words}
 use Rattle.qap.proofs.Settings.{target_range}

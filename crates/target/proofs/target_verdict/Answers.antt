@@ -1,5 +1,4 @@
 -- The checks in their order.
-use borrow.Author.Rules.{rules}
 use Rattle.outcome.proofs.Chain.{chained}
 use Rattle.algebra.proofs.Consecutive.{length-row_points}
 use Rattle.qap.specs.Refusals.{target_verdict}
