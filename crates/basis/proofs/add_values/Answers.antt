@@ -1,3 +1,4 @@
+-- A turn adds one value: nothing where it is 0, else its weight times the target divided by X − x.
 use mathlib.Core.Path.{◌≡◌, sym, ◌∙◌}
 use mathlib.Core.List.{List}
 use Prim.Native.Nat.{ℕ, suc, ◌+◌, ◌*◌, ◌%◌, ◌<◌}

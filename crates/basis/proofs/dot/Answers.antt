@@ -1,3 +1,4 @@
+-- A turn adds one product to the sum.
 use mathlib.Core.Path.{◌≡◌}
 use native.Mathlib.Numerals.{add-one}
 use native.Mathlib.Omega.{arith}

@@ -1,3 +1,4 @@
+-- A turn brings the factor −(k + 1) into the product, and minus the inverse of k + 1 into the weight.
 use mathlib.Core.Path.{◌≡◌}
 use native.Mathlib.Numerals.{add-one}
 use native.Mathlib.Omega.{arith}

@@ -1,3 +1,4 @@
+-- A turn writes the weight of point number i; the next one gains the inverse of i + 1 and loses a factor of the points after.
 use mathlib.Core.Path.{◌≡◌, ◌∙◌, sym}
 use mathlib.Core.List.{List}
 use Prim.Native.Nat.{ℕ, suc, ◌+◌, ◌*◌, ◌-◌, ◌%◌, ◌≤◌, ◌<◌}

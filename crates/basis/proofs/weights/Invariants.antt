@@ -14,7 +14,8 @@ WeightAt m i w = Inverse p (ascent i * descent p (m - suc i)) w
 
 abbrev pub invariant-loop-i : goal.invariant-loop-i
 invariant-loop-i l =
-    (l.i ≤ length l.initial.out) × (length l.out ≡ length l.initial.out) × (l.i < length l.initial.out → WeightAt (length l.initial.out) l.i l.weight) ×
+    (l.i ≤ length l.initial.out) × (length l.out ≡ length l.initial.out) ×
+    (l.i < length l.initial.out → WeightAt (length l.initial.out) l.i l.weight) ×
     ((j : ℕ) → j < l.i → WeightAt (length l.initial.out) j (get_or l.out j 0))
 
 abbrev pub decreases-loop-i : goal.decreases-loop-i

@@ -1,5 +1,5 @@
 -- The row sums stand in front of the word of room when the list is blinded.
-use mathlib.Core.Path.{sym, ◌∙◌}
+use mathlib.Core.Path.{◌∙◌}
 use native.Mathlib.Omega.{arith}
 use lib.Seq.{length-take-le}
 use Rattle.circuit.proofs.Rows.{row_range}
@@ -31,6 +31,3 @@ returns c =
     let given = c.requires.0 in
     let made = c.whole_sums.ensures in
     whole-blinded field_prime _ _ _ _ _ _ given.count c.requires.2 made c.blind.ensures
-
-pub slice_bounds-whole_sums-end-2 : goal.slice_bounds-whole_sums-end-2
-slice_bounds-whole_sums-end-2 c = sym (length-take-le _ _ (omega arith))

@@ -28,9 +28,6 @@ divided m dividend z out {n} e few size count h =
     let words : length (take (m + m + 1) dividend) - m ≡ n = omega (arith, size_work m dividend few size) in
     h ∙ rw (size_low m e, e, points, words)
 
-pub slice_bounds-divide_into-end : goal.slice_bounds-divide_into-end
-slice_bounds-divide_into-end c = sym (size_work _ _ (omega arith) (omega arith))
-
 pub divide_into-requires : goal.divide_into-requires
 divide_into-requires c =
     let low = size_low _ c.requires.is_target in

@@ -1,3 +1,4 @@
+-- A turn adds one word of f times g into the part from i on, whose first word is then done; with no word of f left nothing is added.
 use mathlib.Core.Path.{◌≡◌, sym, ◌∙◌}
 use mathlib.Core.List.{List, ◌++◌, append_assoc}
 use Prim.Native.Nat.{ℕ, ◌+◌, ◌≤◌, ◌<◌}

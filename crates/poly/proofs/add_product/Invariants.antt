@@ -9,7 +9,8 @@ use Rattle.poly.proofs.add_product.Given as goal
 
 abbrev pub invariant-loop-i : goal.invariant-loop-i
 invariant-loop-i l =
-    (l.i ≤ length l.f) × (length l.room ≡ length l.initial.room) × (take l.i l.room ++ add_product p (drop l.i l.f) l.g (drop l.i l.room) ≡ add_product p l.f l.g l.initial.room)
+    (l.i ≤ length l.f) × (length l.room ≡ length l.initial.room) ×
+    (take l.i l.room ++ add_product p (drop l.i l.f) l.g (drop l.i l.room) ≡ add_product p l.f l.g l.initial.room)
 
 abbrev pub decreases-loop-i : goal.decreases-loop-i
 decreases-loop-i l = length l.f - l.i

@@ -1,3 +1,4 @@
+-- A turn makes one quotient word: the part from i on, lent to add_scaled, loses that multiple of the divisor.
 use mathlib.Core.Path.{◌≡◌, sym, ◌∙◌, ap}
 use mathlib.Core.List.{List, ◌∷◌, ◌++◌}
 use Prim.Native.Nat.{ℕ, suc, ◌-◌, ◌<◌}

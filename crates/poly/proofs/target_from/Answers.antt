@@ -1,3 +1,4 @@
+-- A turn puts a 0 in front of the target so far and takes it times X − x, in place.
 use mathlib.Core.Path.{◌≡◌, refl, ◌∙◌}
 use mathlib.Core.List.{List, ◌∷◌}
 use Prim.Native.Nat.{ℕ, suc, ◌+◌, ◌-◌, ◌<◌}

@@ -9,7 +9,8 @@ use Rattle.poly.proofs.target_from.Given as goal
 
 abbrev pub invariant-loop-i : goal.invariant-loop-i
 invariant-loop-i l =
-    (l.first + length l.initial.z ≤ 4294967296) × (l.i < length l.initial.z) × (length l.z ≡ length l.initial.z) × (drop l.i l.z ≡ target p (consecutive (l.first + l.i) (length l.initial.z - 1 - l.i)))
+    (l.first + length l.initial.z ≤ 4294967296) × (l.i < length l.initial.z) × (length l.z ≡ length l.initial.z) ×
+    (drop l.i l.z ≡ target p (consecutive (l.first + l.i) (length l.initial.z - 1 - l.i)))
 
 abbrev pub decreases-loop-i : goal.decreases-loop-i
 decreases-loop-i l = l.i

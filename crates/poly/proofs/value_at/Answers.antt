@@ -1,3 +1,4 @@
+-- A turn is a step of Horner: the next word down plus s times the running word.
 use mathlib.Core.Path.{◌≡◌}
 use Prim.Native.Nat.{suc, ◌-◌}
 use native.Mathlib.Omega.{arith}

@@ -8,8 +8,9 @@ use Rattle.text.proofs.put_line.Given as goal
 
 abbrev pub invariant-loop-i : goal.invariant-loop-i
 invariant-loop-i l =
-    (l.i ≤ length l.words) × (length l.text ≡ length l.initial.text) × (l.end + number_room * (length l.words - l.i) ≤ l.at + number_room * length l.words)
-    × (take l.end l.text ++ line (drop l.i l.words) ≡ take l.at l.initial.text ++ line l.words) × (l.at ≤ l.end) × Kept l.initial.text l.text l.end
+    (l.i ≤ length l.words) × (length l.text ≡ length l.initial.text) ×
+    (l.end + number_room * (length l.words - l.i) ≤ l.at + number_room * length l.words) ×
+    (take l.end l.text ++ line (drop l.i l.words) ≡ take l.at l.initial.text ++ line l.words) × (l.at ≤ l.end) × Kept l.initial.text l.text l.end
 
 abbrev pub decreases-loop-i : goal.decreases-loop-i
 decreases-loop-i l = length l.words - l.i

@@ -1,3 +1,4 @@
+-- A turn leaves the word at `done` and makes the words after it, which are lent, differences to it; they stay words below p.
 use mathlib.Core.Path.{◌≡◌, sym, ◌∙◌}
 use mathlib.Core.List.{List, ◌++◌, append_assoc, append-nil}
 use Prim.Native.Nat.{ℕ, suc, ◌+◌, ◌-◌, ◌≤◌, ◌<◌}

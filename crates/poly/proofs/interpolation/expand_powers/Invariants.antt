@@ -10,7 +10,8 @@ use Rattle.poly.proofs.interpolation.expand_powers.Given as goal
 
 abbrev pub invariant-loop-i : goal.invariant-loop-i
 invariant-loop-i l =
-    (l.i ≤ length l.initial.v) × (length l.v ≡ length l.initial.v) × (l.v ≡ take l.i l.initial.v ++ powers p (consecutive (l.first + l.i) (length l.initial.v - l.i)) (drop l.i l.initial.v))
+    (l.i ≤ length l.initial.v) × (length l.v ≡ length l.initial.v) ×
+    (l.v ≡ take l.i l.initial.v ++ powers p (consecutive (l.first + l.i) (length l.initial.v - l.i)) (drop l.i l.initial.v))
 
 abbrev pub decreases-loop-i : goal.decreases-loop-i
 decreases-loop-i l = l.i
