@@ -1,7 +1,5 @@
 -- Refused by the verdict, or one column is filled.
-use mathlib.Core.Path.{◌∙◌}
 use native.Mathlib.Omega.{arith}
-use borrow.Author.Rules.{rules}
 use Rattle.outcome.proofs.Verdict.{is_accepted}
 use Rattle.circuit.proofs.Formed.{circuit-formed}
 use Rattle.qap.proofs.Columns.{column_asked}
@@ -27,6 +25,4 @@ fill_columns-requires c =
     }
 
 pub returns : goal.returns
-returns c =
-    let verdict = c.before in
-    filled-done _ verdict.column-verdict.ensures _ _ c.if-verdict-ne0.false (λ _. one-column c.fill_columns.ensures)
+returns c = filled-done _ c.column_verdict-verdict.ensures _ _ c.if-verdict-ne0.false (λ _. one-column c.fill_columns.ensures)

@@ -1,77 +1,74 @@
 -- The target lies in the front of a room; the dividend's words are compared with those of the target times the candidate.
+use Prim.Native.Nat.{ℕ, ◌+◌, ◌≤◌}
+use mathlib.Core.List.{List}
 use mathlib.Core.Path.{◌≡◌, ◌∙◌}
-use Prim.Native.Nat.{◌+◌, ◌≤◌}
 use native.Mathlib.Omega.{arith}
-use borrow.Author.Rules.{rules}
-use Rattle.slices.proofs.Rooms.{Front, Back, front, back}
+use Rattle.outcome.specs.Verdict.{Accepted}
+use Rattle.slices.specs.Zeros.{zeros}
+use Rattle.slices.proofs.Rooms.{Front, front, back}
+use Rattle.circuit.specs.Circuit.{rows}
 use Rattle.field.proofs.PrimeField.{field_prime}
-use Rattle.qap.specs.Polynomials.{target_of}
-use Rattle.dividend.proofs.GivenLaws.{target-made, ready-given}
+use Rattle.qap.specs.declared.Blinders.{Blinders}
+use Rattle.qap.specs.Refusals.{check_division_verdict}
 use Rattle.qap.specs.Setting.{standard}
+use Rattle.dividend.proofs.GivenLaws.{target-made, ready-given}
 use Rattle.division_check.proofs.DivisionChecks.{ready, formed, few, candidate-size, division_decided}
 use Rattle.division_check.proofs.candidate_divides.Goals as goal
-use Rattle.division_check.proofs.candidate_divides.Goals.{After-room-z, After-rows_of-m, After-target}
 
-abbrev start : (c : After-rows_of-m) → tie.Start
-start c = c
+module _ (c a : List ℕ) (d : Blinders) (h : List ℕ) {m : ℕ} (accepted : Accepted (check_division_verdict standard c a d h)) (count : m ≡ rows c) where
+  small : m ≤ 256
+  small = omega (arith, count, few field_prime _ _ _ _ accepted)
+
+  z-front : {room : List ℕ} → room ≡ zeros 257 → Front (m + 1) room
+  z-front e = front _ 257 (omega (arith, small)) e
 
 pub rows_of-m-requires : goal.rows_of-m-requires
 rows_of-m-requires c = (formed field_prime _ _ _ _ c.requires).counts
 
-small : (c : After-rows_of-m) → c.rows_of_lem.result ≤ 256
-small c = omega (arith, c.rows_of_lem.ensures, few field_prime _ _ _ _ (start c).requires)
-
-z-front : (c : After-room-z) → Front (c.rows_of_lem.result + 1) c.room-z.result
-z-front c = front _ 257 (omega (arith, small c)) c.room-z.ensures
-
-z-back : (c : After-target) → Back (c.rows_of_lem.result + 1) c.room-z.result c.target.new.0
-z-back c = back _ (z-front c) c.target.auto.0
-
-is_target : (c : After-target) → c.target.new.0 ≡ target_of standard (start c).args.circuit.now
-is_target c =
-    target-made field_prime (start c).args.circuit.now c.rows_of_lem.ensures (z-front c) c.target.ensures
-
 pub target-requires : goal.target-requires
 target-requires c =
-    let size = (z-front c).size in
-    let below = small c in
+    let size = (z-front _ _ _ _ c.requires c.rows_of-m.ensures c.room-z.ensures).size in
+    let below = small _ _ _ _ c.requires c.rows_of-m.ensures in
     (omega arith, omega arith)
 
 pub dividend-left-requires : goal.dividend-left-requires
 dividend-left-requires c =
-    let counting = c.before in
-    rw (z-back c).words (ready-given field_prime _ _ _ (ready field_prime _ _ _ _ (start counting).requires).given counting.rows_of_lem.ensures (is_target c))
+    let count = c.rows_of-m.ensures in
+    let lent = z-front _ _ _ _ c.requires count c.room-z.ensures in
+    let made = target-made field_prime _ count lent c.target.ensures in
+    rw (back _ lent c.target.auto.z).words (ready-given field_prime _ _ _ (ready field_prime _ _ _ _ c.requires).given count made)
 
 pub product-right-requires : goal.product-right-requires
 product-right-requires c =
-    let counting = c.before in
-    let below = small counting in
-    (omega (arith, (z-back c).size), omega (arith, candidate-size field_prime _ _ _ _ (start counting).requires, counting.rows_of_lem.ensures))
+    let count = c.rows_of-m.ensures in
+    let below = small _ _ _ _ c.requires count in
+    let lent = z-front _ _ _ _ c.requires count c.room-z.ensures in
+    (omega (arith, (back _ lent c.target.auto.z).size), omega (arith, candidate-size field_prime _ _ _ _ c.requires, count))
 
 pub returns : goal.returns
 returns c =
-    let divided = c.before in
-    let made = divided.before.before.before in
-    division_decided field_prime _ _ _ _ (start made.before.before.before).requires ((z-back made).words ∙ is_target made) divided.dividend.ensures
-    c.product-right.ensures c.same.ensures
+    let count = c.rows_of-m.ensures in
+    let lent = z-front _ _ _ _ c.requires count c.room-z.ensures in
+    let made = (back _ lent c.target.auto.z).words ∙ target-made field_prime _ count lent c.target.ensures in
+    division_decided field_prime _ _ _ _ c.requires made c.dividend-left.ensures c.product-right.ensures c.same.ensures
 
 pub overflow_add-end : goal.overflow_add-end
-overflow_add-end c = omega (arith, small c)
+overflow_add-end c = omega (arith, small _ _ _ _ c.requires c.rows_of-m.ensures)
 
 pub slice_bounds-z-end : goal.slice_bounds-z-end
-slice_bounds-z-end c = (z-front c).ranges
+slice_bounds-z-end c = (z-front _ _ _ _ c.requires c.rows_of-m.ensures c.room-z.ensures).fits
 
 pub slice_bounds-target-end : goal.slice_bounds-target-end
-slice_bounds-target-end c = (z-front c).size
+slice_bounds-target-end c = (z-front _ _ _ _ c.requires c.rows_of-m.ensures c.room-z.ensures).size
 
 pub slice_bounds-z-end-2 : goal.slice_bounds-z-end-2
-slice_bounds-z-end-2 c = (z-back c).fits
+slice_bounds-z-end-2 c = (back _ (z-front _ _ _ _ c.requires c.rows_of-m.ensures c.room-z.ensures) c.target.auto.z).fits
 
 pub slice_bounds-dividend-end : goal.slice_bounds-dividend-end
-slice_bounds-dividend-end c = (z-back c).size
+slice_bounds-dividend-end c = (back _ (z-front _ _ _ _ c.requires c.rows_of-m.ensures c.room-z.ensures) c.target.auto.z).size
 
 pub slice_bounds-z-end-3 : goal.slice_bounds-z-end-3
-slice_bounds-z-end-3 c = (z-back c).fits
+slice_bounds-z-end-3 c = (back _ (z-front _ _ _ _ c.requires c.rows_of-m.ensures c.room-z.ensures) c.target.auto.z).fits
 
 pub slice_bounds-product-end : goal.slice_bounds-product-end
-slice_bounds-product-end c = (z-back c).size
+slice_bounds-product-end c = (back _ (z-front _ _ _ _ c.requires c.rows_of-m.ensures c.room-z.ensures) c.target.auto.z).size

@@ -1,7 +1,7 @@
 -- Invariant: the words passed are the same in both lists.
 use mathlib.Core.List.{List}
-use mathlib.Core.Path.{◌≡◌, ap}
-use Prim.Native.Nat.{ℕ, ◌+◌, ◌-◌, ◌≤◌, ◌<◌}
+use mathlib.Core.Path.{◌≡◌}
+use Prim.Native.Nat.{ℕ, ◌-◌, ◌≤◌, ◌<◌}
 use lib.ListN.{length, get_or}
 use Rattle.division_check.proofs.same.Given as goal
 

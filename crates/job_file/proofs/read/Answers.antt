@@ -23,7 +23,7 @@ use Rattle.job_file.specs.Read.{Read, refused}
 use Rattle.job_file.specs.declared.Job.{Job}
 use Rattle.job_file.proofs.FileLaws.{file_rest, up_to_the_end, ends}
 use Rattle.job_file.proofs.read.Goals as goal
-use Rattle.job_file.proofs.read.Goals.{After-columns_of, After-rest_verdict-found, After-section_start-end, Else-begun-ne0, Else-found-ne0}
+use Rattle.job_file.proofs.read.Goals.{After-columns_of, After-rest_verdict-found, After-section_start-end}
 
 refusal : (w : List ℕ) {o : Outcome} {j : Job} → o ≡ file_verdict w → (o.number ≡ 0 → ⊥) → j ≡ refused o → Read w j
 refusal w told positive given =
@@ -57,44 +57,43 @@ module _ (w : List ℕ) where
     point : word w (last + 5) ≡ point_of w
     point = rw (← get_or-drop last w 5 0, remains)
 
-begun : (c : Else-begun-ne0) → Accepted (prefix_verdict p c.args.words.now)
-begun c = is_accepted c.prefix_verdict-begun.ensures c.if-begun-ne0.false
-
 within : (c : After-section_start-end) → c.section_start-end.result ≤ length c.args.words.now
-within c = omega (arith, ends-within (prefix_formed _ (begun c)), c.section_start-end.ensures)
+within c =
+    omega (arith, ends-within (prefix_formed _ (is_accepted c.prefix_verdict-begun.ensures c.if-begun-ne0.false)), c.section_start-end.ensures)
 
-found : (c : After-rest_verdict-found) →
-    c.rest_verdict-found.result ≡ file_verdict c.args.words.now
+found : (c : After-rest_verdict-found) → c.rest_verdict-found.result ≡ file_verdict c.args.words.now
 found c =
-    found_after _ (begun c.before) c.section_start-end.ensures c.rest_verdict-found.ensures
-
-accepted : (c : Else-found-ne0) →
-    Accepted (file_verdict c.args.words.now)
-accepted c = is_accepted (found c) c.if-found-ne0.false
+    found_after _ (is_accepted c.prefix_verdict-begun.ensures c.if-begun-ne0.false) c.section_start-end.ensures c.rest_verdict-found.ensures
 
 -- where circuit and assignment end, in what the code has counted
-end : (c : After-columns_of) →
+end : (w : List ℕ) {o : Outcome} {circuit wide : ℕ} → o ≡ file_verdict w → o.number ≡ 0 → circuit ≡ ending w → wide ≡ columns w →
+    let last = circuit + wide + 2 in
+    (last ≡ ending w + (columns (leading w) + 2)) × (last + 6 ≡ length w)
+end w told zero circuit wide =
+    let split = ends w (is_accepted told zero) in
+    let counted = leading-count w 2 (omega arith) in
+    (omega arith, omega arith)
+
+-- the same at a place past the count of columns
+counted : (c : After-columns_of) →
     let last = c.section_start-end.result + c.columns_of.result + 2 in
     (last ≡ ending c.args.words.now + (columns (leading c.args.words.now) + 2)) × (last + 6 ≡ length c.args.words.now)
-end c =
-    let w = c.args.words.now in
-    let split = ends w (accepted c) in
-    let counted = leading-count w 2 (omega arith) in
-    let circuit = c.section_start-end.ensures in
-    let wide = c.columns_of.ensures in
-    (omega arith, omega arith)
+counted c =
+    let verdict = found_after _ (is_accepted c.prefix_verdict-begun.ensures c.if-begun-ne0.false) c.section_start-end.ensures c.rest_verdict-found.ensures in
+    end _ verdict c.if-found-ne0.false c.section_start-end.ensures c.columns_of.ensures
 
 pub returns-then-begun-ne0 : goal.returns-then-begun-ne0
 returns-then-begun-ne0 c =
     refusal _ (begun_refused _ c.prefix_verdict-begun.ensures c.if-begun-ne0.true) c.if-begun-ne0.true c.refused.ensures
 
 pub returns-then-found-ne0 : goal.returns-then-found-ne0
-returns-then-found-ne0 c = refusal _ (found c) c.if-found-ne0.true c.refused-then-found-ne0.ensures
+returns-then-found-ne0 c =
+    refusal _ (found (goal.at.returns-then-found-ne0 c).After-rest_verdict-found) c.if-found-ne0.true c.refused-then-found-ne0.ensures
 
 pub returns : goal.returns
 returns c =
-    let last = (end c).0 in
-    let verdict = found c.before in
+    let last = (counted (goal.at.returns c).After-columns_of).0 in
+    let verdict = found (goal.at.returns c).After-rest_verdict-found in
     record {
       number_and_place = verdict;
       split = λ a. record {
@@ -103,11 +102,11 @@ returns c =
         blinders = c.blinders_in.ensures ∙ blinders _ last;
         point = point _ last;
       };
-      none = λ r. absurd (not_both (accepted c.before) r);
+      none = λ r. absurd (not_both (is_accepted verdict c.if-found-ne0.false) r);
     }
 
 pub section_start-end-requires : goal.section_start-end-requires
-section_start-end-requires c = (prefix_formed _ (begun c), omega arith)
+section_start-end-requires c = (prefix_formed _ (is_accepted c.prefix_verdict-begun.ensures c.if-begun-ne0.false), omega arith)
 
 pub slice_bounds-rest_verdict-end : goal.slice_bounds-rest_verdict-end
 slice_bounds-rest_verdict-end c = sym (length-take-le _ _ (within c))
@@ -122,34 +121,34 @@ pub slice_bounds-rest_verdict-start : goal.slice_bounds-rest_verdict-start
 slice_bounds-rest_verdict-start c = let l = within c in search rules
 
 pub rest_verdict-found-requires : goal.rest_verdict-found-requires
-rest_verdict-found-requires c = begins-formed _ (begun c) c.section_start-end.ensures
+rest_verdict-found-requires c = begins-formed _ (is_accepted c.prefix_verdict-begun.ensures c.if-begun-ne0.false) c.section_start-end.ensures
 
 pub columns_of-requires : goal.columns_of-requires
-columns_of-requires c = (prefix_formed _ (begun c)).counts
+columns_of-requires c = (prefix_formed _ (is_accepted c.prefix_verdict-begun.ensures c.if-begun-ne0.false)).counts
 
 pub overflow_add-last : goal.overflow_add-last
-overflow_add-last c = let l = end c in search rules
+overflow_add-last c = let l = counted (goal.at.overflow_add-last c).After-columns_of in search rules
 
 pub overflow_add-last-2 : goal.overflow_add-last-2
-overflow_add-last-2 c = let l = end c in search rules
+overflow_add-last-2 c = let l = counted (goal.at.overflow_add-last-2 c).After-columns_of in search rules
 
 pub offset_bounds-words-last : goal.offset_bounds-words-last
-offset_bounds-words-last c = let l = end c in search rules
+offset_bounds-words-last c = let l = counted (goal.at.offset_bounds-words-last c).After-columns_of in search rules
 
 pub slice_bounds-blinders_in-count : goal.slice_bounds-blinders_in-count
-slice_bounds-blinders_in-count c = let l = end c in search rules
+slice_bounds-blinders_in-count c = let l = counted (goal.at.slice_bounds-blinders_in-count c).After-columns_of in search rules
 
 pub slice_bounds-blinders_in-start : goal.slice_bounds-blinders_in-start
-slice_bounds-blinders_in-start c = let l = end c in search rules
+slice_bounds-blinders_in-start c = let l = counted (goal.at.slice_bounds-blinders_in-start c).After-columns_of in search rules
 
 pub blinders_in-requires : goal.blinders_in-requires
-blinders_in-requires c = let l = end c in rw (up_to_the_end, length-drop) (omega arith)
+blinders_in-requires c = let l = counted (goal.at.blinders_in-requires c).After-columns_of in rw (up_to_the_end, length-drop) (omega arith)
 
 pub overflow_add-result : goal.overflow_add-result
-overflow_add-result c = let l = end c in search rules
+overflow_add-result c = let l = counted (goal.at.overflow_add-result c).After-columns_of in search rules
 
 pub offset_bounds-words-last-2 : goal.offset_bounds-words-last-2
-offset_bounds-words-last-2 c = let l = end c in search rules
+offset_bounds-words-last-2 c = let l = counted (goal.at.offset_bounds-words-last-2 c).After-columns_of in search rules
 
 pub bounds-words-last : goal.bounds-words-last
-bounds-words-last c = omega (arith, end c)
+bounds-words-last c = omega (arith, counted (goal.at.bounds-words-last c).After-columns_of)

@@ -1,5 +1,4 @@
 -- The checks in their order.
-use borrow.Author.Rules.{rules}
 use Rattle.outcome.proofs.Chain.{chained}
 use Rattle.job_file.specs.File.{size_verdict}
 use Rattle.job_file.proofs.size_verdict.Goals as goal

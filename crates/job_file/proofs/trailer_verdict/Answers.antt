@@ -1,7 +1,6 @@
 -- The checks in their order; past the first there are six words.
 use mathlib.Core.Path.{◌≡◌}
 use native.Mathlib.Omega.{arith}
-use borrow.Author.Rules.{rules}
 use borrow.Author.Tests.{eqb-true}
 use lib.ListN.{length}
 use Rattle.outcome.proofs.Chain.{chained, called, called-refused, tested}
@@ -22,7 +21,7 @@ returns c =
     called c.require-sized.ensures c.if-sized-ne0.false (search chained depth 16)
 
 pub bounds-t-0 : goal.bounds-t-0
-bounds-t-0 c = omega (arith, six c)
+bounds-t-0 c = omega (arith, six (goal.at.bounds-t-0 c).Else-sized-ne0)
 
 pub bounds-t-4 : goal.bounds-t-4
-bounds-t-4 c = omega (arith, six c)
+bounds-t-4 c = omega (arith, six (goal.at.bounds-t-4 c).Else-sized-ne0)

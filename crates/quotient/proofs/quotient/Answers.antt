@@ -1,5 +1,4 @@
 -- Refused by the verdict, or filled.
-use borrow.Author.Rules.{rules}
 use Rattle.outcome.proofs.Verdict.{is_accepted}
 use Rattle.qap.proofs.Filling.{filled-refused, filled-done}
 use Rattle.quotient.proofs.quotient.Goals as goal

@@ -1,6 +1,5 @@
 -- The checks in their order; rows are judged beside a circuit and an assignment that were accepted.
 use native.Mathlib.Omega.{arith}
-use borrow.Author.Rules.{rules}
 use Rattle.outcome.proofs.Chain.{calls}
 use Rattle.outcome.proofs.Verdict.{is_accepted}
 use Rattle.circuit.proofs.Formed.{circuit-formed}
@@ -26,12 +25,12 @@ rows_of-requires c =
 pub overflow_add-rows_of : goal.overflow_add-rows_of
 overflow_add-rows_of c =
     let given = ready standard _ _ _ (is_accepted c.ready_verdict-ready.ensures c.if-ready-ne0.false) in
-    omega (arith, (row_range (circuit-formed _ given.circuit).formed).at_most, c.rows_of_lem.ensures)
+    omega (arith, (row_range (circuit-formed _ given.circuit).formed).at_most, c.rows_of.ensures)
 
 pub returns-then-sized-ne0 : goal.returns-then-sized-ne0
 unfolding quotient_verdict
 returns-then-sized-ne0 c =
-    let sized = rw c.rows_of_lem.ensures at c.length_verdict-sized.ensures in
+    let sized = rw c.rows_of.ensures at c.length_verdict-sized.ensures in
     rw (quotient-words p _) (search calls depth 16)
 
 pub rows_verdict-requires : goal.rows_verdict-requires
@@ -42,5 +41,5 @@ rows_verdict-requires c =
 pub returns : goal.returns
 unfolding quotient_verdict
 returns c =
-    let sized = rw c.rows_of_lem.ensures at c.length_verdict-sized.ensures in
+    let sized = rw c.rows_of.ensures at c.length_verdict-sized.ensures in
     rw (quotient-words p _) (search calls depth 16)

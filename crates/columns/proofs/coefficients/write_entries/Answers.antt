@@ -1,13 +1,9 @@
-use mathlib.Core.List.{List}
-use mathlib.Core.Path.{◌≡◌, sym, ◌∙◌, ap}
-use Prim.Native.Nat.{ℕ, ◌-◌, ◌≤◌}
+use mathlib.Core.Path.{sym, ◌∙◌, ap}
 use native.Mathlib.Nat.{le_antisymm}
 use borrow.Author.Rules.{rules}
 use lib.ListN.{length, length-replicate}
-use Rattle.circuit.specs.Circuit.{entries}
 use Rattle.columns.specs.Coefficients.{listed_column}
 use Rattle.columns.proofs.CoefficientLaws.{length-listed, no_entries}
-use Rattle.columns.proofs.coefficients.write_entries.Invariants.{Written}
 use Rattle.columns.proofs.coefficients.write_entries.Goals as goal
 
 pub loop-e-init : goal.loop-e-init
@@ -15,8 +11,11 @@ loop-e-init c = record { within = search rules; words = c.requires.1 ∙ no_entr
 
 pub write_entry-requires : goal.write_entry-requires
 write_entry-requires c =
-    let loop = c.loop-e in
-    ((c.requires.0.entry loop.e (search rules), search rules), loop.invariant.words)
+    let below = c.loop-e-test.true in
+    record {
+      entry_formed = (c.requires.0.entry c.loop-e.e (search rules), search rules);
+      out_value = c.loop-e.invariant.words;
+    }
 
 pub loop-e-preserved : goal.loop-e-preserved
 loop-e-preserved c = record { within = search rules; words = c.write_entry.ensures }

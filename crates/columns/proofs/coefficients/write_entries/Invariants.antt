@@ -1,6 +1,6 @@
 -- Invariant: the words are the column by the entries passed.
 use mathlib.Core.List.{List}
-use mathlib.Core.Path.{◌≡◌, sym, ◌∙◌, ap}
+use mathlib.Core.Path.{◌≡◌}
 use Prim.Native.Nat.{ℕ, ◌-◌, ◌≤◌}
 use Rattle.circuit.specs.Circuit.{entries}
 use Rattle.columns.specs.Coefficients.{listed_column}

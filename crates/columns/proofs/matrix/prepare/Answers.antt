@@ -8,6 +8,5 @@ use Rattle.columns.proofs.matrix.prepare.Goals as goal
 
 pub returns : goal.returns
 returns c =
-    let start = c.before in
-    let m : length start.args.z.now - 1 ≡ length start.args.weights.now = omega arith in
+    let m : length c.args.z.now - 1 ≡ length c.args.weights.now = omega arith in
     record { few = search rules; is_target = c.target.ensures ∙ rw m; are_weights = c.weights.ensures }

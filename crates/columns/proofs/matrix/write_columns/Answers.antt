@@ -1,49 +1,46 @@
-use mathlib.Core.Path.{◌∙◌}
-use Prim.Native.Nat.{◌+◌, ◌*◌, ◌-◌, ◌≤◌}
+use Prim.Native.Nat.{ℕ, ◌+◌, ◌*◌, ◌≤◌, ◌<◌}
+use mathlib.Core.List.{List}
+use mathlib.Core.Path.{◌≡◌, ◌∙◌}
 use native.Mathlib.Nat.{mul-le-mul}
 use native.Mathlib.Omega.{arith}
 use borrow.Author.Rules.{rules}
 use borrow.Rule.Slice.PartMut.{mid_len}
 use lib.ListN.{length}
+use Rattle.circuit.specs.Circuit.{rows}
 use Rattle.circuit.specs.Limits.{most_rows, most_columns}
 use Rattle.circuit.proofs.Rows.{row_range}
 use Rattle.field.specs.Field.{p}
+use Rattle.columns.specs.Columns.{ColumnsRoom}
 use Rattle.columns.proofs.ColumnLaws.{WrittenUpTo, place_fits, one_more}
 use Rattle.columns.proofs.matrix.write_columns.Goals as goal
-use Rattle.columns.proofs.matrix.write_columns.Goals.{In-loop-t}
 
 pub loop-t-init : goal.loop-t-init
-loop-t-init c =
-    record { within = search rules; size = c.requires.0.size; column = λ k l. absurd (omega arith) }
+loop-t-init c = record { within = search rules; size = c.requires.columns_room.size; column = λ k l. absurd (omega arith) }
 
 -- the place lent next
-inside : (c : In-loop-t) →
-    c.loop-t.t * c.rows_of_lem.result + c.rows_of_lem.result ≤ length c.loop-t.out
-inside c =
-    let here = c.loop-t in
-    rw (c.rows_of_lem.ensures, here.invariant.size) (place_fits _ c.loop-t-test.true)
+inside : {c : List ℕ} {matrix first count m t : ℕ} {out : List ℕ} →
+    WrittenUpTo p c matrix first count out t → m ≡ rows c → t < count → t * m + m ≤ length out
+inside written same l = rw (same, written.size) (place_fits _ l)
 
 -- there are few words
-small : (c : In-loop-t) → length c.loop-t.out ≤ (most_columns + 1) * most_rows
-small c =
-    let count : c.args.count ≤ most_columns + 1 = omega (arith, c.requires.0.few) in
-    rw c.loop-t.invariant.size (mul-le-mul count (row_range c.requires.0.circuit).at_most)
+small : {c : List ℕ} {matrix first count t : ℕ} {old out : List ℕ} →
+    ColumnsRoom p c matrix first count old → WrittenUpTo p c matrix first count out t → length out ≤ (most_columns + 1) * most_rows
+small {count = count} room written =
+    let few : count ≤ most_columns + 1 = omega (arith, room.few) in
+    rw written.size (mul-le-mul few (row_range room.circuit).at_most)
 
 pub write_column-requires : goal.write_column-requires
-write_column-requires c =
-    let m = c.rows_of_lem in (
-      record {
-        circuit = c.requires.0.circuit;
-        of_three = c.requires.0.of_three;
-        size = mid_len _ _ _ (inside c) ∙ omega (arith, m.ensures);
-      },
-      c.requires.1,
-    )
+write_column-requires c = (
+  record {
+    circuit = c.requires.columns_room.circuit;
+    of_three = c.requires.columns_room.of_three;
+    size = mid_len _ _ _ (inside c.loop-t.invariant c.rows_of-m.ensures c.loop-t-test.true) ∙ omega (arith, c.rows_of-m.ensures);
+  },
+  c.requires.prepared,
+)
 
 pub loop-t-preserved : goal.loop-t-preserved
-loop-t-preserved c =
-    rw c.rows_of_lem.ensures
-    (one_more c.loop-t.invariant c.loop-t-test.true c.write_column.ensures)
+loop-t-preserved c = rw c.rows_of-m.ensures (one_more c.loop-t.invariant c.loop-t-test.true c.write_column.ensures)
 
 pub returns : goal.returns
 returns c =
@@ -51,16 +48,12 @@ returns c =
     record { size = here.size; column = λ t l. here.column t (omega (arith, c.loop-t-test.false)) }
 
 pub overflow_mul-a : goal.overflow_mul-a
-overflow_mul-a c = omega (arith, inside c)
+overflow_mul-a c = omega (arith, inside c.loop-t.invariant c.rows_of-m.ensures c.loop-t-test.true, small c.requires.columns_room c.loop-t.invariant)
 
 pub overflow_add-e : goal.overflow_add-e
-overflow_add-e c = omega (arith, inside c)
+overflow_add-e c = omega (arith, inside c.loop-t.invariant c.rows_of-m.ensures c.loop-t-test.true, small c.requires.columns_room c.loop-t.invariant)
 
 pub offset_bounds-out-a : goal.offset_bounds-out-a
-offset_bounds-out-a c = omega (arith, inside c, small c)
-
-pub slice_bounds-write_column-count : goal.slice_bounds-write_column-count
-slice_bounds-write_column-count c = omega arith
-
-pub slice_bounds-write_column-start : goal.slice_bounds-write_column-start
-slice_bounds-write_column-start c = omega arith
+offset_bounds-out-a c =
+    let place = inside c.loop-t.invariant c.rows_of-m.ensures c.loop-t-test.true in
+    omega (arith, place, small c.requires.columns_room c.loop-t.invariant)

@@ -1,8 +1,7 @@
 -- Invariant: the columns passed stand in their places. The place lent next is inside, since there are `count` of them.
-use mathlib.Core.Path.{◌∙◌}
-use Prim.Native.Nat.{◌+◌, ◌*◌, ◌-◌, ◌≤◌}
+use Prim.Native.Nat.{◌-◌}
 use Rattle.field.specs.Field.{p}
-use Rattle.columns.proofs.ColumnLaws.{WrittenUpTo, place_fits, one_more}
+use Rattle.columns.proofs.ColumnLaws.{WrittenUpTo}
 use Rattle.columns.proofs.matrix.write_columns.Given as goal
 
 abbrev pub invariant-loop-t : goal.invariant-loop-t
