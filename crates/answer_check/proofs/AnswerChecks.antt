@@ -4,14 +4,12 @@ use mathlib.Core.Bool.{Bool}
 use mathlib.Core.Path.{◌≡◌, sym, ◌∙◌}
 use mathlib.Core.List.{List}
 use Prim.Native.Nat.{ℕ, ◌+◌, ◌*◌, ◌%◌}
-use Rattle.outcome.specs.Verdict.{Accepted}
 use Rattle.algebra.specs.Congruence.{◌≈⟨◌⟩◌}
 use Rattle.algebra.specs.Polynomial.{value}
 use Rattle.algebra.proofs.Congruence.{≈_refl, ≈_sym, ≈_trans, ≈-plus, ≈-product, ≈-reduced}
 use Rattle.algebra.specs.Prime.{FieldPrime}
 use Rattle.basis.specs.BasisAt.{BasisAt}
 use Rattle.circuit.specs.Circuit.{rows, publics}
-use Rattle.circuit.specs.Reader.{circuit_verdict}
 use Rattle.evaluation.specs.Values.{PartAt, PartValue}
 use Rattle.qap.specs.declared.FourAnswers.{FourAnswers}
 use Rattle.qap.specs.Polynomials.{PublicPart, target_of}
@@ -19,7 +17,6 @@ use Rattle.qap.specs.Answers.{AnswersAgree}
 use Rattle.circuit.specs.WellFormed.{Formed}
 use Rattle.qap.proofs.Standard.{row-sound}
 use Rattle.qap.proofs.Parts.{part_exists}
-use Rattle.qap.proofs.Settings.{distinct-points}
 use Rattle.refusals.specs.Decides.{Decides}
 use Rattle.refusals.proofs.Deciding.{decides-other}
 use Rattle.qap.specs.Setting.{row_setting}

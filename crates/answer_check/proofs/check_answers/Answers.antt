@@ -1,5 +1,4 @@
 -- Refused, or decided.
-use borrow.Author.Rules.{rules}
 use Rattle.outcome.proofs.Verdict.{is_accepted}
 use Rattle.refusals.proofs.Deciding.{judged-refused, judged-accepted}
 use Rattle.answer_check.proofs.check_answers.Goals as goal

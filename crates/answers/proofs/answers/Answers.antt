@@ -2,7 +2,6 @@
 use mathlib.Core.List.{List}
 use mathlib.Core.Path.{◌≡◌, sym, ◌∙◌}
 use Prim.Native.Nat.{ℕ}
-use borrow.Author.Rules.{rules}
 use Rattle.outcome.specs.declared.Outcome.{Outcome}
 use Rattle.outcome.specs.Verdict.{Accepted}
 use Rattle.outcome.proofs.Chain.{calls, called-refused}
@@ -53,9 +52,8 @@ answer_rows-requires c =
 
 pub returns : goal.returns
 returns c =
-    let past = c.before in
-    let e = by_rows _ _ _ _ (is_accepted past.before.before.ready-verdict.ensures past.if1.false)
-    (is_accepted c.point_verdict-pointed.ensures c.if-pointed-ne0.false) in
+    let given = is_accepted c.ready_verdict-ready.ensures c.if-ready-ne0.false in
+    let e = by_rows _ _ _ _ given (is_accepted c.point_verdict-pointed.ensures c.if-pointed-ne0.false) in
     let found = c.answer_rows.ensures in
     record {
       number_and_place = found.number_and_place ∙ sym e;
