@@ -36,7 +36,7 @@ module _ (c : List ℕ) (s i j e : ℕ) where
 module _ (c : List ℕ) (s j : ℕ) where
   pub length-listed : (e : ℕ) → length (listed_column c s j e) ≡ rows c
   unfolding listed_column
-  length-listed e = length-table (λ i. listed c s (suc i) j e) (rows c)
+  length-listed e = length-table _ (rows c)
 
   pub no_entries : replicate (rows c) 0 ≡ listed_column c s j 0
   unfolding listed_column listed
@@ -44,7 +44,7 @@ module _ (c : List ℕ) (s j : ℕ) where
 
   pub other-column : (e : ℕ) → (column_of c s e ≡ j → ⊥) → listed_column c s j e ≡ listed_column c s j (e + 1)
   unfolding listed_column
-  other-column e h = rw (add-one e) (table_same _ _ (rows c) (λ i l. sym (listed-other-column c s (suc i) j e h)))
+  other-column e h = rw (add-one e) (table_same _ _ (rows c) (λ i l. sym (listed-other-column c s _ j e h)))
 
   pub own_column : (e : ℕ) → Within 1 (row_of c s e) (rows c) → column_of c s e ≡ j →
       set (listed_column c s j e) (row_of c s e - 1) (value_of c s e) ≡ listed_column c s j (e + 1)

@@ -1,33 +1,31 @@
 -- The two exported functions together: the verdicts over bytes are those of the calls over words, so what holds of the calls holds of them.
-use mathlib.Core.List.{List, [], ◌∷◌}
+use mathlib.Core.List.{List, ◌∷◌}
 use mathlib.Core.Logic.{⊎_elim}
-use mathlib.Core.Path.{◌≡◌, refl, sym, ◌∙◌, ap}
-use Prim.Native.Nat.{ℕ, ◌+◌, ◌*◌, ◌%◌, ◌<◌, ◌≤◌}
+use mathlib.Core.Path.{◌≡◌, sym, ◌∙◌, ap}
+use Prim.Native.Nat.{ℕ, ◌*◌, ◌%◌, ◌≤◌}
 use native.Mathlib.Omega.{arith}
 use borrow.Author.Tests.{le-leb, eq-eqb}
 use lib.Dec.{lit<}
-use lib.ListN.{length, get_or, length-take}
+use lib.ListN.{length, length-take}
 use Rattle.outcome.specs.declared.Outcome.{Outcome}
 use Rattle.outcome.specs.Verdict.{fine, Accepted, Refused}
 use Rattle.outcome.proofs.Verdict.{accepted-fine, accepted-both, accepted-parts, accepted_or_refused, accepted-require, goes_on, not_both, Proper, proper-require, proper-and_then, accepted_new}
-use Rattle.packing.specs.Packing.{unpacked, packed}
-use Rattle.packing.proofs.PackingLaws.{length-packed, unpacked-packed}
-use Rattle.circuit.specs.Circuit.{publics, columns, leading}
+use Rattle.packing.specs.Packing.{unpacked}
+use Rattle.packing.proofs.PackingLaws.{unpacked-packed}
+use Rattle.circuit.specs.Circuit.{leading}
 use Rattle.circuit.proofs.Formed.{circuit-formed}
 use Rattle.assignment.specs.Assignment.{circuit_then_assignment, public_section}
-use Rattle.assignment.proofs.Accepted.{assignment_formed}
 use Rattle.rows.specs.Rows.{rows_verdict}
 use Rattle.rows.proofs.Holds.{proper-rows}
 use Rattle.qap.specs.Setting.{standard}
 use Rattle.qap.specs.Answers.{AnswersAgree}
-use Rattle.qap.specs.Refusals.{answer_words, length_verdict, answers_verdict, check_answers_verdict}
-use Rattle.qap.specs.Calls.{AnswersCall, CheckAnswersCall}
-use Rattle.qap.specs.declared.FourAnswers.{FourAnswers}
+use Rattle.qap.specs.Refusals.{answer_words, answers_verdict}
+use Rattle.qap.specs.Calls.{AnswersCall}
 use Rattle.qap.proofs.Standard.{sound}
 use Rattle.qap.proofs.PlaceZero.{proper-length, proper-answers, proper-check_answers}
 use Rattle.qap.proofs.Checks.{answer_words_lem, tablet_accepts, passed-agrees}
 use Rattle.job_file.specs.File.{assignment_of, blinders_of, point_of, most_bytes, size_verdict, file_verdict}
-use Rattle.job_file.proofs.FileLaws.{size-words, file_ready, file_answers_ready, ends}
+use Rattle.job_file.proofs.FileLaws.{file_ready, file_answers_ready, ends}
 use Rattle.job_file.proofs.Proper.{proper-size, proper_file}
 use Rattle.rowprover.specs.Exports.{integer, answers_bytes, query_bytes, query_point, query_answers, JobBytes, words_then_size, answers_bytes_verdict, sizes_verdict, check_bytes_verdict, AnswersExport, CheckExport}
 use Rattle.rowprover.specs.Promises.{BytesOf, ExportPromises}

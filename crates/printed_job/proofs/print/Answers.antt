@@ -1,10 +1,12 @@
 -- Refused by the length; else the words, in the front of a room that has enough of them.
-use Prim.Native.Nat.{◌/◌}
-use borrow.Author.Rules.{rules}
+use mathlib.Core.List.{List}
+use mathlib.Core.Path.{◌≡◌}
+use Prim.Native.Nat.{ℕ, ◌/◌}
 use lib.ListN.{length}
 use Rattle.outcome.specs.Verdict.{Accepted}
 use Rattle.outcome.proofs.Chain.{called-refused}
 use Rattle.outcome.proofs.Verdict.{is_accepted, goes_on}
+use Rattle.slices.specs.Zeros.{zeros}
 use Rattle.slices.proofs.Rooms.{Back, back}
 use Rattle.packing.specs.Packing.{job_words}
 use Rattle.packing.proofs.Unpacking.{Fits, fits}
@@ -13,46 +15,41 @@ use Rattle.job_file.proofs.FileLaws.{size-words}
 use Rattle.printed_job.specs.Lines.{program_verdict}
 use Rattle.printed_job.proofs.LinesLaws.{reports-refused}
 use Rattle.printed_job.proofs.print.Goals as goal
-use Rattle.printed_job.proofs.print.Goals.{After-unpack, After-words_room-words, Else-sized-ne0}
+use Rattle.printed_job.proofs.print.Goals.{After-unpack, After-words_room-words}
 
 pub returns-then-sized-ne0 : goal.returns-then-sized-ne0
 unfolding program_verdict
 returns-then-sized-ne0 c =
-    let chosen = c.before in
-    let told = chosen.before.before.size-verdict.ensures in
-    reports-refused _ (called-refused _ told chosen.if1.true) chosen.if1.true c.refuse.ensures
+    reports-refused _ (called-refused _ c.size_verdict-sized.ensures c.if-sized-ne0.true) c.if-sized-ne0.true c.refuse.ensures
 
-accepted : (c : Else-sized-ne0) → Accepted (size_verdict (length c.args.input.now))
-accepted c = is_accepted c.size_verdict-sized.ensures c.if-sized-ne0.false
+room : (b : List ℕ) {words : List ℕ} → Accepted (size_verdict (length b)) → words ≡ zeros job_words → Fits b words
+room b sized made = let size = size-words _ sized in fits job_words size.whole size.few made
 
-room : (c : After-words_room-words) → Fits c.args.input.now c.words_room-words.result
-room c =
-    let size = size-words _ (accepted c) in
-    fits job_words size.whole size.few c.words_room-words.ensures
+lent : (c : After-words_room-words) → Fits c.args.input.now c.words_room-words.result
+lent c = room _ (is_accepted c.size_verdict-sized.ensures c.if-sized-ne0.false) c.words_room-words.ensures
 
-read : (c : After-unpack) →
-    Back (length c.args.input.now / 4) c.words_room-words.result
-    c.unpack.new.1.0
-read c = back _ (room c).lent c.unpack.auto.1.0
+read : (c : After-unpack) → Back (length c.args.input.now / 4) c.words_room-words.result c.unpack.new.words
+read c =
+    let accepted = is_accepted c.size_verdict-sized.ensures c.if-sized-ne0.false in
+    back _ (room _ accepted c.words_room-words.ensures).lent c.unpack.auto.words
 
 pub returns : goal.returns
 unfolding program_verdict
 returns c =
-    let unpacked = c.before in
-    rw (goes_on _ (accepted unpacked.before.before.before))
-    (rw ((read unpacked).words, unpacked.unpack.ensures) at c.print_words.ensures)
+    rw (goes_on _ (is_accepted c.size_verdict-sized.ensures c.if-sized-ne0.false))
+    (rw ((read (goal.at.returns c).After-unpack).words, c.unpack.ensures) at c.print_words.ensures)
 
 pub slice_bounds-words-end : goal.slice_bounds-words-end
-slice_bounds-words-end c = (room c).lent.ranges
+slice_bounds-words-end c = (lent c).lent.fits
 
 pub slice_bounds-unpack-end : goal.slice_bounds-unpack-end
-slice_bounds-unpack-end c = (room c).lent.size
+slice_bounds-unpack-end c = (lent (goal.at.slice_bounds-unpack-end c).After-words_room-words).lent.size
 
 pub unpack-requires : goal.unpack-requires
-unpack-requires c = (room c).whole
+unpack-requires c = (lent (goal.at.unpack-requires c).After-words_room-words).whole
 
 pub slice_bounds-words-end-2 : goal.slice_bounds-words-end-2
-slice_bounds-words-end-2 c = (read c).fits
+slice_bounds-words-end-2 c = (read (goal.at.slice_bounds-words-end-2 c).After-unpack).fits
 
 pub slice_bounds-print_words-end : goal.slice_bounds-print_words-end
-slice_bounds-print_words-end c = (read c).size
+slice_bounds-print_words-end c = (read (goal.at.slice_bounds-print_words-end c).After-unpack).size

@@ -6,16 +6,14 @@ use Rattle.printed_job.proofs.print_job.Goals as goal
 
 pub returns-then-found-ne0 : goal.returns-then-found-ne0
 returns-then-found-ne0 c =
-    let chosen = c.before in
-    reports-refused _ chosen.before.before.answers.ensures.number_and_place chosen.if1.true c.refuse.ensures
+    reports-refused _ c.answers-found.ensures.number_and_place c.if-found-ne0.true c.refuse.ensures
 
 pub print_five-requires : goal.print_five-requires
 print_five-requires c =
     let answered = c.answers-found.ensures in
     let accepted = is_accepted answered.number_and_place c.if-found-ne0.false in
-    ((accepted, answered.done accepted), search rules)
+    record { accepted = (accepted, answered.done accepted); text_room_in_bounds = search rules }
 
 pub returns : goal.returns
 returns c =
-    let chosen = c.before in
-    reports-done _ chosen.before.before.answers.ensures.number_and_place chosen.if1.false c.print_five.ensures
+    reports-done _ c.answers-found.ensures.number_and_place c.if-found-ne0.false c.print_five.ensures

@@ -26,29 +26,27 @@ within c = let l = parts c in omega (arith, l.ordered, l.within)
 pub returns-then-job-ne0 : goal.returns-then-job-ne0
 unfolding job_verdict
 returns-then-job-ne0 c =
-    let chosen = c.before in
-    let told = chosen.before.before.read.ensures.number_and_place in
-    reports-refused _ (called-refused _ told chosen.if1.true) chosen.if1.true c.refuse.ensures
+    reports-refused _ (called-refused _ c.read-job.ensures.number_and_place c.if-job-ne0.true) c.if-job-ne0.true c.refuse.ensures
 
 pub returns : goal.returns
 returns c =
-    let chosen = c.before in
-    let parted = chosen.before.before.read.ensures.split (accepted chosen) in
-    let cut = parts chosen in
-    rw (file_goes_on _ (accepted chosen))
+    let read = (goal.at.returns c).Else-job-ne0 in
+    let parted = c.read-job.ensures.split (accepted read) in
+    let cut = parts read in
+    rw (file_goes_on _ (accepted read))
     (rw (cut.circuit, cut.assignment, parted.blinders, parted.point) at c.print_job.ensures)
 
 pub slice_bounds-print_job-end : goal.slice_bounds-print_job-end
-slice_bounds-print_job-end c = sym (length-take-le _ _ (within c))
+slice_bounds-print_job-end c = sym (length-take-le _ _ (within (goal.at.slice_bounds-print_job-end c).Else-job-ne0))
 
 pub offset_bounds-words-end : goal.offset_bounds-words-end
-offset_bounds-words-end c = let l = parts c in search rules
+offset_bounds-words-end c = let l = parts (goal.at.offset_bounds-words-end c).Else-job-ne0 in search rules
 
 pub slice_bounds-print_job-count : goal.slice_bounds-print_job-count
-slice_bounds-print_job-count c = let l = parts c in search rules
+slice_bounds-print_job-count c = let l = parts (goal.at.slice_bounds-print_job-count c).Else-job-ne0 in search rules
 
 pub slice_bounds-print_job-start : goal.slice_bounds-print_job-start
-slice_bounds-print_job-start c = let l = parts c in search rules
+slice_bounds-print_job-start c = let l = parts (goal.at.slice_bounds-print_job-start c).Else-job-ne0 in search rules
 
 pub slice_bounds-print_job-end-2 : goal.slice_bounds-print_job-end-2
-slice_bounds-print_job-end-2 c = let l = parts c in search rules
+slice_bounds-print_job-end-2 c = let l = parts (goal.at.slice_bounds-print_job-end-2 c).Else-job-ne0 in search rules

@@ -1,5 +1,4 @@
 -- The outcome's place is small.
-use borrow.Author.Rules.{rules}
 use Rattle.rowprover.proofs.Small.{near-answers}
 use Rattle.rowprover.proofs.rowprover_answers.Goals as goal
 

@@ -1,5 +1,4 @@
 -- The outcome's place is small.
-use borrow.Author.Rules.{rules}
 use Rattle.rowprover.proofs.Small.{near-check, near-judged}
 use Rattle.rowprover.proofs.rowprover_check.Goals as goal
 

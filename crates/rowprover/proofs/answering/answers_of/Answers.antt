@@ -1,5 +1,4 @@
 -- A row that fails refuses before a byte is written; else the answers are packed.
-use borrow.Author.Rules.{rules}
 use Rattle.qap.proofs.Filling.{filled-refused, filled-done}
 use Rattle.rowprover.proofs.answering.answers_of.Goals as goal
 
@@ -8,9 +7,8 @@ returns-then-hold-ne0 c = filled-refused _ c.answer_rows-found.ensures.number_an
 
 pub returns : goal.returns
 returns c =
-    let past = c.before in
-    let found = past.before.before.before.answer-rows in
-    filled-done _ found.ensures.number_and_place _ _ past.if1.false (λ h. record {
+    let found = c.answer_rows-found in
+    filled-done _ found.ensures.number_and_place _ _ c.if-hold-ne0.false (λ h. record {
       answers = found.result.numbers;
       are_answers = found.ensures.done h;
       are_bytes = c.write_answers.ensures;

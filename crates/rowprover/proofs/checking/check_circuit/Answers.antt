@@ -1,5 +1,4 @@
 -- A long section is refused unread; else it is read too.
-use borrow.Author.Rules.{rules}
 use borrow.Author.Tests.{leb-true}
 use lib.Dec.{lit<}
 use Rattle.outcome.proofs.Verdict.{is_accepted, require-accepted}
@@ -8,9 +7,7 @@ use Rattle.rowprover.proofs.checking.check_circuit.Goals as goal
 
 pub returns-then-short-ne0 : goal.returns-then-short-ne0
 returns-then-short-ne0 c =
-    let tested = c.before in
-    let pre = tested.before.before.before.before.requires in
-    long_section _ _ _ _ _ pre.0 tested.require.ensures c.if-short-ne0.true
+    long_section _ _ _ _ _ c.requires.0 c.require-short.ensures c.if-short-ne0.true
     (rw c.circuit_verdict.ensures at c.and_then.ensures)
 
 pub check_section-requires : goal.check_section-requires

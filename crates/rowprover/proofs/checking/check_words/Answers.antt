@@ -1,6 +1,5 @@
 -- Each word read is the one that the bytes unpack to.
 use native.Mathlib.Omega.{arith}
-use borrow.Author.Rules.{rules}
 use Rattle.packing.proofs.PackingLaws.{word-unpacked}
 use Rattle.rowprover.proofs.checking.check_words.Goals as goal
 

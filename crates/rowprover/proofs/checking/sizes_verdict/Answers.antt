@@ -1,5 +1,4 @@
 -- The three lengths in their order.
-use borrow.Author.Rules.{rules}
 use Rattle.outcome.proofs.Chain.{chained}
 use Rattle.rowprover.specs.Exports.{sizes_verdict}
 use Rattle.rowprover.proofs.checking.sizes_verdict.Goals as goal
