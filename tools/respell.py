@@ -1,9 +1,10 @@
 #!/usr/bin/env python3
 """respell.py: brings the repository's own definitions, fields and lemmas to today's spelling. Run once at the top, after port.py.
 
-Words of a name are joined by `_`; a dash stays where it joins two names that are defined (`length-target`, `distinct-consecutive`), and a lemma that would have its definition's name ends in `_lem`.
+Words of a name are joined by `_`, of a field always; of a lemma a dash stays where it joins two names that are defined (`length-target`,
+`distinct-consecutive`), and one that would have its definition's name ends in `_lem`. With --fields the fields alone are brought over.
 Functions of src/, exported C names, strings, inputs and outputs keep their names. What a walk of the code calls its places keeps its name too:
-those are Rattle's. Names that would fall together are printed, and nothing is written.
+those are Rattle's. Names that would fall together are printed; with --write the files are written.
 """
 import glob
 import os
@@ -74,9 +75,12 @@ def spelling():
     names = declared()
     functions = set(re.findall(r"\bfn (\w+)", "\n".join(text(p) for p in glob.glob("crates/*/src/*.rt"))))
     known = set(STD) | {n for n in functions | {snake(n).lower() for n, _ in names if "-" not in n} if len(n) > 2}
-    out = {}
+    labels, out = fields(), {}
     for name, path in names:
         if name[0].isupper() or "◌" in name:
+            continue
+        if name in labels:
+            out[name] = snake(name).replace("-", "_")
             continue
         if walks(path):
             if name.endswith("-spec"):
@@ -97,16 +101,17 @@ def fields():
     """The fields of the records that are declared."""
     found = set()
     for path in sources():
-        inside = False
+        depth = None
         for line in text(path).split("\n"):
-            if re.match(r" *(pub )?record \S+", line):
-                inside = True
-            elif inside:
-                field = re.match(r" +(?:pub )?(\S+) :", line)
-                if field:
-                    found.add(field.group(1))
-                elif line and not line.startswith(" "):
-                    inside = False
+            record = re.match(r"( *)(?:pub )?record \S+", line)
+            if record:
+                depth = len(record.group(1))
+            elif depth is not None:
+                field = re.match(r"( +)(?:pub )?([^\s():]+) :", line)
+                if field and len(field.group(1)) > depth:
+                    found.add(field.group(2))
+                elif not line.strip() or len(line) - len(line.lstrip()) <= depth:
+                    depth = None
     return found
 
 
@@ -145,6 +150,8 @@ def edit_line(line, names, fields):
 
 def main():
     names, known = spelling(), fields()
+    if "--fields" in sys.argv:
+        names = {name: new for name, new in ((f, f.replace("-", "_")) for f in known) if new != name}
     words = set()
     for path in sources():
         for line in text(path).split("\n"):

@@ -11,7 +11,7 @@ use Rattle.algebra.proofs.Congruence.{≈-eq, ≈_sym, ≈_trans, ≈-plus, ≈-
 
 module _ {p : ℕ} (prime : Prime p) where
   pub positive : 0 < p
-  positive = omega (arith, prime.above-one)
+  positive = omega (arith, prime.above_one)
 
   -- a number between 1 and p does not divide p
   pub leaves : (a : ℕ) → 1 < a → a < p → 0 < p % a
@@ -45,14 +45,14 @@ module _ {p : ℕ} (prime : Prime p) where
         found.0 % p,
         record {
           word = mod-lt found.0 positive;
-          leaves-one = ≈_trans (≈-product (≈_sym (≈-reduced p a)) (≈-reduced p found.0)) found.1;
+          leaves_one = ≈_trans (≈-product (≈_sym (≈-reduced p a)) (≈-reduced p found.0)) found.1;
         },
       )
 
   pub cancel : {a b : ℕ} (c : ℕ) → (c ≈⟨ p ⟩ 0 → ⊥) → a * c ≈⟨ p ⟩ b * c → a ≈⟨ p ⟩ b
   cancel {a} {b} c nonzero h =
       let i = inverse c nonzero in
-      let one = i.1.leaves-one in
+      let one = i.1.leaves_one in
       by (≈-plus (≈-plus (≈_sym (≈-times a one)) (≈-times i.0 h)) (≈-times b one)) (omega arith)
 
   pub no_zero_divisors : (a b : ℕ) → a * b ≈⟨ p ⟩ 0 → (a ≈⟨ p ⟩ 0) ⊎ (b ≈⟨ p ⟩ 0)
@@ -61,14 +61,14 @@ module _ {p : ℕ} (prime : Prime p) where
 
   pub inverse_unique : {a b c : ℕ} → Inverse p a b → Inverse p a c → b ≡ c
   inverse_unique {a} {b} {c} h k =
-      ≈-words (by (≈-plus (≈-times c h.leaves-one) (≈-times b (≈_sym k.leaves-one))) (omega arith)) h.word k.word
+      ≈-words (by (≈-plus (≈-times c h.leaves_one) (≈-times b (≈_sym k.leaves_one))) (omega arith)) h.word k.word
 
   -- exactly one word d with a + d z = v
   pub solve : (z : ℕ) → (z ≈⟨ p ⟩ 0 → ⊥) → (a v : ℕ) → (d : ℕ) × (d < p) × (a + d * z ≈⟨ p ⟩ v)
   solve z nonzero a v =
       let i = inverse z nonzero in
       let d = (v + negative p a) * i.0 in
-      let facts = ≈-plus (≈-plus (≈-times z (≈-reduced p d)) (≈-times (v + negative p a) i.1.leaves-one)) (≈-negative positive a) in
+      let facts = ≈-plus (≈-plus (≈-times z (≈-reduced p d)) (≈-times (v + negative p a) i.1.leaves_one)) (≈-negative positive a) in
       (d % p, mod-lt d positive, by facts (omega arith))
 
   pub solve_unique : (z : ℕ) → (z ≈⟨ p ⟩ 0 → ⊥) → (a : ℕ) {v d e : ℕ} → d < p → e < p → a + d * z ≈⟨ p ⟩ v → a + e * z ≈⟨ p ⟩ v → d ≡ e

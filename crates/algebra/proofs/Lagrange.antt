@@ -111,7 +111,7 @@ module _ {p : ℕ} (prime : Prime p) {xs : List ℕ} (distinct : Distinct p xs) 
   inverse_at : (i : ℕ) → (w : ℕ) × (i < length xs → w * apartness p xs i ≈⟨ p ⟩ 1)
   inverse_at i = elim (dec_lt i (length xs)) [
     | yes l ↦ (let found = inverse prime (apartness p xs i) (apart_nonzero prime xs distinct i l) in
-        (found.0, λ _. by found.1.leaves-one (omega arith)))
+        (found.0, λ _. by found.1.leaves_one (omega arith)))
     | no n ↦ (0, λ l. absurd (n l))
   ]
 

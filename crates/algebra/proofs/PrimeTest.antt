@@ -43,7 +43,7 @@ unfolding is_prime
 prime p t = go (ltb 1 p) refl t
   where
     go : (x : Bool) → ltb 1 p ≡ x → T (elim x [ true ↦ undivided 65536 p 2 | false ↦ false ]) → Prime p
-    go true hx k = record { above-one = ltb-true _ _ hx; no_product = no_factor 65536 p 2 k }
+    go true hx k = record { above_one = ltb-true _ _ hx; no_product = no_factor 65536 p 2 k }
     go false hx k = absurd k
 
 -- the test refuses a composite number

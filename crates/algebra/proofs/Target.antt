@@ -64,7 +64,7 @@ pub target-only : {p : ℕ} → Prime p → (xs : List ℕ) (s : ℕ) → value 
     (i : ℕ) × (i < length xs) × (s ≈⟨ p ⟩ get_or xs i 0)
 unfolding target value
 target-only prime [] s h =
-    let one : ◌≡◌ {A = ℕ} 1 0 = ≈-words (by h (omega arith)) prime.above-one (positive prime) in
+    let one : ◌≡◌ {A = ℕ} 1 0 = ≈-words (by h (omega arith)) prime.above_one (positive prime) in
     absurd (omega arith)
 target-only {p} prime (x ∷ xs) s h = ⊎_elim
     (λ k. (0, omega arith, by (≈-plus k (≈_sym (≈-negative (positive prime) x))) (omega arith)))

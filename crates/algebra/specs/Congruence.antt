@@ -14,4 +14,4 @@ negative p a = (p - 1) * a
 -- the word b is the inverse of a
 pub record Inverse (p a b : ℕ) : Type 0 where
   pub word : b < p
-  pub leaves-one : a * b ≈⟨ p ⟩ 1
+  pub leaves_one : a * b ≈⟨ p ⟩ 1

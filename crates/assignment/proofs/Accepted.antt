@@ -53,11 +53,11 @@ module _ {p : ℕ} (field : FieldPrime p) where
   unfolding assignment_verdict
   assignment_formed c a h =
       let size = taken _ _ _ (lit< tt) h in
-      let public-count = taken _ _ _ (lit< tt) size.1 in
-      let private_count = taken _ _ _ (lit< tt) public-count.1 in
+      let public_count = taken _ _ _ (lit< tt) size.1 in
+      let private_count = taken _ _ _ (lit< tt) public_count.1 in
       record {
         size = eqb-true _ _ size.0;
-        public-count = eqb-true _ _ public-count.0;
+        public_count = eqb-true _ _ public_count.0;
         private_count = eqb-true _ _ private_count.0;
         values = values_formed a private_count.1;
       }
@@ -65,24 +65,24 @@ module _ {p : ℕ} (field : FieldPrime p) where
   pub assignment-accepted : {c a : List ℕ} → AssignmentFormed p c a → Accepted (assignment_verdict p c a)
   unfolding assignment_verdict
   assignment-accepted f = accepted-both (accepted-require _ _ (eq-eqb _ _ f.size))
-      (accepted-both (accepted-require _ _ (eq-eqb _ _ f.public-count))
+      (accepted-both (accepted-require _ _ (eq-eqb _ _ f.public_count))
       (accepted-both (accepted-require _ _ (eq-eqb _ _ f.private_count)) (values-accepted f.values)))
 
   pub public_formed : (c a : List ℕ) → Accepted (public_verdict p c a) → PublicFormed p c a
   unfolding public_verdict
   public_formed c a h =
       let size = taken _ _ _ (lit< tt) h in
-      let public-count = taken _ _ _ (lit< tt) size.1 in
+      let public_count = taken _ _ _ (lit< tt) size.1 in
       record {
         size = eqb-true _ _ size.0;
-        public-count = eqb-true _ _ public-count.0;
-        values = values_formed a public-count.1;
+        public_count = eqb-true _ _ public_count.0;
+        values = values_formed a public_count.1;
       }
 
   pub public-accepted : {c a : List ℕ} → PublicFormed p c a → Accepted (public_verdict p c a)
   unfolding public_verdict
   public-accepted f = accepted-both (accepted-require _ _ (eq-eqb _ _ f.size))
-      (accepted-both (accepted-require _ _ (eq-eqb _ _ f.public-count)) (values-accepted f.values))
+      (accepted-both (accepted-require _ _ (eq-eqb _ _ f.public_count)) (values-accepted f.values))
 
   -- a call that takes both lists
   pub both-formed : (c a : List ℕ) → Accepted (circuit_then_assignment p c a) → WellFormed p c × AssignmentFormed p c a

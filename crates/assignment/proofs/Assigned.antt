@@ -66,7 +66,7 @@ module _ {p : ℕ} {c a : List ℕ} (circuit : Formed p c) (formed : AssignmentF
   pub public_part : PublicFormed p c (take (publics c + 1) a)
   public_part = record {
     size = public-size;
-    public-count = public-word 0 (omega arith) ∙ formed.public-count;
+    public_count = public-word 0 (omega arith) ∙ formed.public_count;
     values = record {
       one = public-word 1 (omega arith) ∙ formed.values.one;
       words = record {

@@ -11,11 +11,11 @@ pub record ValuesFormed (p : ℕ) (a : List ℕ) : Type 0 where
 
 pub record AssignmentFormed (p : ℕ) (c a : List ℕ) : Type 0 where
   pub size : length a ≡ columns c + 2
-  pub public-count : word a 0 ≡ publics c
+  pub public_count : word a 0 ≡ publics c
   pub private_count : word a (publics c + 1) ≡ columns c - publics c
   pub values : ValuesFormed p a
 
 pub record PublicFormed (p : ℕ) (c a : List ℕ) : Type 0 where
   pub size : length a ≡ publics c + 1
-  pub public-count : word a 0 ≡ publics c
+  pub public_count : word a 0 ≡ publics c
   pub values : ValuesFormed p a

@@ -85,7 +85,7 @@ module _ {p : ℕ} {xs : List ℕ} {y : ℕ → ℕ} {n : ℕ} {old f : List ℕ
           by
           (≈-plus
           (≈-plus (value-added x) (≈-times d (≋-value (divided-target pos xs n inside) x)))
-          (≈-plus (≈-times apart (≈-reduced p (y n * w))) (≈-times (y n) (weights.inverse n inside).leaves-one)))
+          (≈-plus (≈-times apart (≈-reduced p (y n * w))) (≈-times (y n) (weights.inverse n inside).leaves_one)))
           (omega arith)
 
       other : (k : ℕ) → k < length xs → (k ≡ n → ⊥) → value (scaled p d q f) (get_or xs k 0) ≈⟨ p ⟩ value f (get_or xs k 0)

@@ -110,7 +110,7 @@ module _ (p s : ℕ) where
           (by
           (≈-plus
           (≈-plus (≈-times a (≈-reduced p (w * b % p * f))) (≈-times (a * f) (≈-reduced p (w * b))))
-          (≈-plus (≈-times (b * f) (h.inverse i l).leaves-one) (≈_sym (others-parts m i inside))))
+          (≈-plus (≈-times (b * f) (h.inverse i l).leaves_one) (≈_sym (others-parts m i inside))))
           (omega arith))
 
   -- what the weights and the two passes leave

@@ -21,13 +21,13 @@ module _ {p : ℕ} (pos : 0 < p) where
       let q = p - 1 in
       rw e (record {
         word = mod-lt (w * k) pos;
-        leaves-one =
+        leaves_one =
             by
             (≈-plus
             (≈-plus (≈-times (d * (q * a)) (≈-reduced p (w * k))) (≈-times (d * w * (q * a)) (rest_of b (omega (arith, inverse.word)))))
             (≈-plus
             (≈-plus (≈-times (d * w) (≈-negative pos (q * (a * b)))) (≈-times (d * w) (≈_sym (≈-negative pos (a * b)))))
-            (≈-plus (≈-times (d * w) inverse.leaves-one) old.leaves-one)))
+            (≈-plus (≈-times (d * w) inverse.leaves_one) old.leaves_one)))
             (omega arith);
       })
 
@@ -38,13 +38,13 @@ module _ {p : ℕ} (pos : 0 < p) where
       let k = p - n in
       rw (e', e) (record {
         word = mod-lt (w * b % p * k) pos;
-        leaves-one =
+        leaves_one =
             by
             (≈-plus
             (≈-plus (≈-times (u * a * d) (≈-reduced p (w * b % p * k))) (≈-times (u * a * d * k) (≈-reduced p (w * b))))
-            (≈-plus (≈-times (u * a * d * w * b) (rest_of n below)) (≈-plus (≈-times (a * b) old.leaves-one) inverse.leaves-one)))
+            (≈-plus (≈-times (u * a * d * w * b) (rest_of n below)) (≈-plus (≈-times (a * b) old.leaves_one) inverse.leaves_one)))
             (omega arith);
       })
 
 pub same-inverse : {p a b w : ℕ} → a ≈⟨ p ⟩ b → Inverse p b w → Inverse p a w
-same-inverse {p} {w = w} h k = record { word = k.word; leaves-one = ≈_trans (≈-product h (≈_refl p w)) k.leaves-one }
+same-inverse {p} {w = w} h k = record { word = k.word; leaves_one = ≈_trans (≈-product h (≈_refl p w)) k.leaves_one }

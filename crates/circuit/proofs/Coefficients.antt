@@ -68,7 +68,7 @@ module _ {p : ℕ} {c : List ℕ} (formed : Formed p c) (matrix : ℕ) (l : matr
       coef c matrix (row_of c (section c matrix) e) (column_of c (section c matrix) e) ≡ value_of c (section c matrix) e
   unfolding coef
   coef-listed e h =
-      listed-value (formed.matrices matrix l) formed.column-count.at_most _ _ e (entries c (section c matrix)) h (omega arith)
+      listed-value (formed.matrices matrix l) formed.column_count.at_most _ _ e (entries c (section c matrix)) h (omega arith)
       (is_at_lem c (section c matrix) e)
 
   pub coef-none : (i j : ℕ) →
@@ -85,4 +85,4 @@ module _ {p : ℕ} {c : List ℕ} (formed : Formed p c) (matrix : ℕ) (l : matr
       total (λ e. g (row_of c (section c matrix) e) (column_of c (section c matrix) e) * value_of c (section c matrix) e) (entries c (section c matrix))
       ≡ total (λ i. total (λ j. g (suc i) (suc j) * coef c matrix (suc i) (suc j)) (columns c)) (rows c)
   unfolding coef
-  coef-sum g = entries-sum (formed.matrices matrix l) formed.column-count.at_most g
+  coef-sum g = entries-sum (formed.matrices matrix l) formed.column_count.at_most g

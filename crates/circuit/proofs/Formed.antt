@@ -56,12 +56,12 @@ module _ {p : ℕ} where
       let counts = taken _ _ _ (lit< tt) h in
       let parts = accepted-parts counts.1 in
       let row_count = taken _ _ _ (lit< tt) parts.0 in
-      let column-count = taken _ _ _ (lit< tt) row_count.1 in
+      let column_count = taken _ _ _ (lit< tt) row_count.1 in
       record {
         counts = leb-true _ _ counts.0;
         row_count = true_within _ _ _ row_count.0;
-        column-count = true_within _ _ _ column-count.0;
-        public-count = true_within _ _ _ (require-accepted _ _ _ (lit< tt) column-count.1);
+        column_count = true_within _ _ _ column_count.0;
+        public_count = true_within _ _ _ (require-accepted _ _ _ (lit< tt) column_count.1);
         matrices = λ k l. section_formed c (section c k) (accepted-each (λ matrix. section_verdict p c (section c matrix)) 3 parts.1 k l);
       }
 
@@ -70,7 +70,7 @@ module _ {p : ℕ} where
   prefix_accepted {c} f = accepted-both (accepted-require _ _ (le-leb _ _ f.counts))
       (accepted-both
       (accepted-both (accepted-require _ _ (within_true f.row_count))
-      (accepted-both (accepted-require _ _ (within_true f.column-count)) (accepted-require _ _ (within_true f.public-count))))
+      (accepted-both (accepted-require _ _ (within_true f.column_count)) (accepted-require _ _ (within_true f.public_count))))
       (accepted-first (λ matrix. section_verdict p c (section c matrix)) 3 (λ k l. section-accepted (f.matrices k l))))
 
   pub circuit-formed : (c : List ℕ) → Accepted (circuit_verdict p c) → WellFormed p c

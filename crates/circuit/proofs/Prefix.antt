@@ -76,8 +76,8 @@ module _ (c : List ℕ) where
           formed = record {
             counts = rw leading_length (begins-after c 3);
             row_count = rw (leading-count 0 (omega arith)) formed.row_count;
-            column-count = rw (leading-count 2 (omega arith)) formed.column-count;
-            public-count = rw (leading-count 1 (omega arith), leading-count 2 (omega arith)) formed.public-count;
+            column_count = rw (leading-count 2 (omega arith)) formed.column_count;
+            public_count = rw (leading-count 1 (omega arith), leading-count 2 (omega arith)) formed.public_count;
             matrices = leading_matrix;
           };
           whole = leading-section 3 (omega arith) ∙ sym leading_length;

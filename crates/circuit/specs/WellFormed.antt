@@ -23,8 +23,8 @@ pub record SectionFormed (p : ℕ) (c : List ℕ) (s : ℕ) : Type 0 where
 pub record Formed (p : ℕ) (c : List ℕ) : Type 0 where
   pub counts : 3 ≤ length c
   pub row_count : Within 1 (listed_rows c) most_rows
-  pub column-count : Within 1 (columns c) most_columns
-  pub public-count : Within 1 (publics c) (columns c)
+  pub column_count : Within 1 (columns c) most_columns
+  pub public_count : Within 1 (publics c) (columns c)
   pub matrices : (matrix : ℕ) → matrix < 3 → SectionFormed p c (section c matrix)
 
 -- matrix 0, 1 or 2 of a circuit, and a list with a word for each of its rows

@@ -12,7 +12,7 @@ use field::MINUS_ONE;
 // The verdict, and the sums of A, B and C over all columns.
 fn whole(circuit: &[u32], values: &[u32], a: &mut [u32], b: &mut [u32], c: &mut [u32])
     requires accepted { Accepted (circuit_then_assignment p circuit.now values.now) }
-    requires a_len { (length a.old ≡ rows circuit.now) × (length b.old ≡ rows circuit.now) × (length c.old ≡ rows circuit.now) }
+    requires lengths { (length a.old ≡ rows circuit.now) × (length b.old ≡ rows circuit.now) × (length c.old ≡ rows circuit.now) }
 {
     outcome_line(rows::rows_verdict(circuit, values, a, b, c));
     line(a);

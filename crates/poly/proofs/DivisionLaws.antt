@@ -112,8 +112,8 @@ module _ {p : ℕ} (prime : Prime p) (xs f : List ℕ) (long : length xs ≤ len
   pub division_by_target : f ≋⟨ p ⟩ sum (remainder p xs f) (product (target p xs) (quotient p xs f))
   unfolding remainder quotient
   division_by_target =
-      rw (length_low prime.above-one xs, monic_low prime.above-one xs) at
-      (division-sum (positive prime) (low_target p xs) (length f - length xs) f (omega (arith, length_low prime.above-one xs)))
+      rw (length_low prime.above_one xs, monic_low prime.above_one xs) at
+      (division-sum (positive prime) (low_target p xs) (length f - length xs) f (omega (arith, length_low prime.above_one xs)))
 
   pub length-remainder : length (remainder p xs f) ≡ length xs
   unfolding remainder

@@ -70,7 +70,7 @@ slope {p} {y} pos word x i u d {t} inverse is =
     let e = p - y in
     let whole : y + e ≡ p = omega arith in
     by
-    (≈-plus (≈-plus (≈-times d (≈-negative pos x)) (≈-times (suc i) is)) (≈-plus (≈-times (u + e) inverse.leaves-one) (≈-whole p u 1)))
+    (≈-plus (≈-plus (≈-times d (≈-negative pos x)) (≈-times (suc i) is)) (≈-plus (≈-times (u + e) inverse.leaves_one) (≈-whole p u 1)))
     (omega arith)
 
 module _ {p : ℕ} (prime : Prime p) (t : List ℕ) (inverses : (i : ℕ) → i < length t → Inverse p (suc i) (get_or t i 0)) where

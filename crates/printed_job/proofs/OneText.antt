@@ -70,8 +70,8 @@ proper_program b = proper-and_then (proper-size (length b)) (proper_job (unpacke
 pub print_promises : PrintPromises
 unfolding program_verdict
 print_promises = record {
-  one-text = λ b x y. printed_determined b x y;
-  one-run = λ b w v. run_determined b w v;
-  accepted-zero = λ b h. (proper_program b).fine_if_accepted h;
-  last-line-zero = λ b h five. check-number (unpacked b) (accepted-parts h).1 five;
+  one_text = λ b x y. printed_determined b x y;
+  one_run = λ b w v. run_determined b w v;
+  accepted_zero = λ b h. (proper_program b).fine_if_accepted h;
+  last_line_zero = λ b h five. check-number (unpacked b) (accepted-parts h).1 five;
 }

@@ -50,7 +50,7 @@ module _ {S : Setting} (sound : Sound S) {c : List ℕ} (formed : Formed S.p c) 
       let H = part-through rh in
       let same = same-values (prime sound) (points_of S c) f (sum g h) (distinct-points sound formed) (le_of_eq F.size)
       (simp length-sum (omega (arith, G.size, H.size)))
-      (λ i l. rw value-sum (≈_trans (F.takes i l) (≈_trans (≈-eq S.p (sym (parts_whole c a formed.public-count.at_most matrix (suc i))))
+      (λ i l. rw value-sum (≈_trans (F.takes i l) (≈_trans (≈-eq S.p (sym (parts_whole c a formed.public_count.at_most matrix (suc i))))
       (≈_sym (≈-plus (G.takes i l) (H.takes i l)))))) in
       ≈_trans (≋-value same s) (≈-eq S.p (value-sum g h s))
 

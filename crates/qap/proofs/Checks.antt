@@ -91,8 +91,8 @@ module _ {S : Setting} (sound : Sound S) where
     tablet_accepts check = check.accepts section-accepts section-agrees
 
   -- what the answer check accepts satisfies its equality: parts are there, and two words are equal or not
-  pub passed-agrees : (c b : List ℕ) (s : ℕ) (r : FourAnswers) → CheckAnswersCall S c b s r fine → AnswersAgree S c b s r
-  passed-agrees c b s r call =
+  pub passed_agrees : (c b : List ℕ) (s : ℕ) (r : FourAnswers) → CheckAnswersCall S c b s r fine → AnswersAgree S c b s r
+  passed_agrees c b s r call =
       let accepted = ⊎_elim (λ good. good)
       (λ (bad : Refused (check_answers_verdict S c b s r)). absurd (not_both (rw (sym (call.refused bad)) accepted-fine) bad))
       (accepted_or_refused (check_answers_verdict S c b s r)) in

@@ -188,9 +188,9 @@ module _ {S : Setting} (sound : Sound S) {c : List ℕ} (formed : Formed S.p c) 
       }
 
 module _ {S : Setting} (sound : Sound S) {c : List ℕ} (formed : Formed S.p c) (a b : List ℕ) (same : SamePublic c a b) where
-  pub same-answers : RowsHold S.p c b → (s : ℕ) (off : value (target_of S c) s ≈⟨ S.p ⟩ 0 → ⊥) {d : Blinders} {r : FourAnswers} →
+  pub same_answers : RowsHold S.p c b → (s : ℕ) (off : value (target_of S c) s ≈⟨ S.p ⟩ 0 → ⊥) {d : Blinders} {r : FourAnswers} →
       IsAnswers S c a d s r → Exactly Blinders (Answered S c b s r)
-  same-answers hold s off {d} {r} h =
+  same_answers hold s off {d} {r} h =
       let word : (x : ℕ) → x % S.p < S.p = λ x. mod-lt x (p_positive sound) in
       let three = any_three sound formed b s off hold r.first r.second r.third
       (rw h.first (word _)) (rw h.second (word _)) (rw h.third (word _)) in

@@ -23,7 +23,7 @@ use Rattle.qap.specs.declared.FourAnswers.{FourAnswers}
 use Rattle.qap.proofs.Settings.{off_rows, answers_ready}
 use Rattle.qap.proofs.PlaceZero.{proper-answers}
 use Rattle.qap.proofs.Checks.{same-section}
-use Rattle.qap.proofs.Demand3.{any_three, only-fourth, fourth_follows, same-answers}
+use Rattle.qap.proofs.Demand3.{any_three, only-fourth, fourth_follows, same_answers}
 use Rattle.qap.proofs.Quotients.{answers_exist}
 use Rattle.qap.proofs.Determined.{answers_unique}
 
@@ -91,7 +91,7 @@ pub calls_same : {S : Setting} (sound : Sound S) (c a b : List ℕ) (s : ℕ) �
     {d : Blinders} {r : FourAnswers} → Gives S c a s r d → Exactly Blinders (Gives S c b s r)
 calls_same sound c a b s given given' same call =
     let formed = (circuit-formed c given.circuit).formed in
-    let other = same-answers sound formed a b same given'.rows_hold
+    let other = same_answers sound formed a b same given'.rows_hold
     s (off_rows sound formed s given.point) (call-answered sound c a s given call).answers in
     record {
       one = other.one;

@@ -25,7 +25,7 @@ use Rattle.qap.proofs.Standard.{sound}
 use Rattle.qap.proofs.Quotients.{quotient-holds, candidate-quotient}
 use Rattle.qap.proofs.Given.{holds-given, given_holds, fails-named}
 use Rattle.qap.proofs.Demand2.{quotient_formula, quotient-unblinded}
-use Rattle.qap.proofs.Checks.{passed-agrees, tablet_accepts, quotient-accepted, accepted-quotient}
+use Rattle.qap.proofs.Checks.{passed_agrees, tablet_accepts, quotient-accepted, accepted-quotient}
 use Rattle.qap.proofs.Columns.{column_determined, columns_determined}
 use Rattle.qap.proofs.OneResult.{target_determined, quotient_determined, answers_determined, check_answers_determined, check_division_determined}
 use Rattle.qap.proofs.Demand3Calls.{calls-answered, calls_any_three, calls-only-fourth, calls-fourth, calls_same}
@@ -95,7 +95,7 @@ module _ {S : Setting} (sound : Sound S) where
     division_checked = record {
       accepts = λ {h} call q. quotient-accepted sound c a d h (shaped q.quotient.size q.quotient.words) call q;
       no_other = λ {h} call e. accepted-quotient sound c a d h (past call e) call e;
-      given-accepted = λ {old} {h} made call.
+      given_accepted = λ {old} {h} made call.
           let q = made.done (rw (sym made.number_and_place) accepted-fine) in
           quotient-accepted sound c a d h (shaped q.quotient.size q.quotient.words) call q;
       broken = λ {h} call bad e. bad (quotient-holds sound formed a (accepted-quotient sound c a d h (past call e) call e));
@@ -105,7 +105,7 @@ module _ {S : Setting} (sound : Sound S) where
 
   pub box_and_tablet : TabletAccepts S
   box_and_tablet = record {
-    passed-agrees = λ {c} {b} {s} {r} call. passed-agrees sound c b s r call;
+    passed_agrees = λ {c} {b} {s} {r} call. passed_agrees sound c b s r call;
     box_and_tablet = λ {c} {a} {d} {s} {r} call check. tablet_accepts sound c a d s r call check;
   }
 
@@ -114,8 +114,8 @@ module _ {S : Setting} (sound : Sound S) where
     answered = calls-answered sound c a s given;
     any_three = calls_any_three sound c a s given;
     fourth = calls-only-fourth sound c a s given;
-    fourth-given = λ {d} {r} call. calls-fourth sound c a d s r call;
-    same-answers = λ b given' same d words.
+    fourth_given = λ {d} {r} call. calls-fourth sound c a d s r call;
+    same_answers = λ b given' same d words.
         let own = calls-answered sound c a s given d words in
         (own.one, own.has, calls_same sound c a b s given given' same own.has);
   }

@@ -73,7 +73,7 @@ pub record QuotientFormula (S : Setting) (c a : List ℕ) : Type 0 where
 pub record DivisionChecked (S : Setting) (c a : List ℕ) (d : Blinders) : Type 0 where
   pub accepts : {h : List ℕ} {o : Outcome} → CheckDivisionCall S c a d h o → IsQuotient S c a d h → o ≡ fine
   pub no_other : {h : List ℕ} {o : Outcome} → CheckDivisionCall S c a d h o → o ≡ fine → IsQuotient S c a d h
-  pub given-accepted : {old h : List ℕ} {o : Outcome} → QuotientCall S c a d old h fine → CheckDivisionCall S c a d h o → o ≡ fine
+  pub given_accepted : {old h : List ℕ} {o : Outcome} → QuotientCall S c a d old h fine → CheckDivisionCall S c a d h o → o ≡ fine
   -- where a row is broken no list is accepted, and one of the right length and words gets 13
   pub broken : {h : List ℕ} {o : Outcome} → CheckDivisionCall S c a d h o → (RowsHold S.p c a → ⊥) → o ≡ fine → ⊥
   pub broken_false : {h : List ℕ} {o : Outcome} → CheckDivisionCall S c a d h o → (RowsHold S.p c a → ⊥) → length h ≡ quotient_length S c →
@@ -81,7 +81,7 @@ pub record DivisionChecked (S : Setting) (c a : List ℕ) (d : Blinders) : Type 
 
 -- The box's four numbers always pass the tablet's check, beside the public section that is handed out; and what passes satisfies the equality.
 pub record TabletAccepts (S : Setting) : Type 0 where
-  pub passed-agrees : {c b : List ℕ} {s : ℕ} {r : FourAnswers} → CheckAnswersCall S c b s r fine → AnswersAgree S c b s r
+  pub passed_agrees : {c b : List ℕ} {s : ℕ} {r : FourAnswers} → CheckAnswersCall S c b s r fine → AnswersAgree S c b s r
   pub box_and_tablet : {c a : List ℕ} {d : Blinders} {s : ℕ} {r : FourAnswers} {o : Outcome} → AnswersCall S c a d s fine r →
       CheckAnswersCall S c (public_section S.p c a) s r o → o ≡ fine
 
@@ -93,9 +93,9 @@ pub record TellsNothing (S : Setting) (c a : List ℕ) (s : ℕ) : Type 0 where
   pub any_three : (v1 v2 v3 : ℕ) → v1 < S.p → v2 < S.p → v3 < S.p → Exactly Blinders (GivesThree S c a s v1 v2 v3)
   -- the fourth follows from circuit, public values, point and those three: exactly one word passes the tablet's check, and it is the call's
   pub fourth : (v1 v2 v3 : ℕ) → Exactly ℕ (IsFourth S c (public_section S.p c a) s v1 v2 v3)
-  pub fourth-given : {d : Blinders} {r : FourAnswers} → Gives S c a s r d → IsFourth S c (public_section S.p c a) s r.first r.second r.third r.fourth
+  pub fourth_given : {d : Blinders} {r : FourAnswers} → Gives S c a s r d → IsFourth S c (public_section S.p c a) s r.first r.second r.third r.fourth
   -- an assignment b with equal public values has, for each triple of a, exactly one with the same four answers
-  pub same-answers : (b : List ℕ) → Satisfied S c b s → SamePublic c a b → (d : Blinders) → Words S.p (blinder_words d) →
+  pub same_answers : (b : List ℕ) → Satisfied S c b s → SamePublic c a b → (d : Blinders) → Words S.p (blinder_words d) →
       (r : FourAnswers) × Gives S c a s r d × Exactly Blinders (Gives S c b s r)
 
 -- Every call's contract determines its result: any two that it admits are equal.

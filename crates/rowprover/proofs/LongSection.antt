@@ -35,7 +35,7 @@ module _ (c b : List ℕ) (long : 257 < length b) where
   unfolding public_verdict
   section-refused h =
       let formed = (circuit-formed c h).formed in
-      let other : eqb (length b) (publics c + 1) ≡ false = ne_eqb _ _ (λ (e : length b ≡ publics c + 1). omega (arith, long, formed.public-count, formed.column-count)) in
+      let other : eqb (length b) (publics c + 1) ≡ false = ne_eqb _ _ (λ (e : length b ≡ publics c + 1). omega (arith, long, formed.public_count, formed.column_count)) in
       rw (fails 6 0 other) (stops _ six)
 
   long_verdict : (s : ℕ) (r : FourAnswers) → check_answers_verdict standard c b s r ≡ circuit_verdict p c and_then outcome 6 0

@@ -23,7 +23,7 @@ use Rattle.qap.specs.Refusals.{answer_words, answers_verdict}
 use Rattle.qap.specs.Calls.{AnswersCall}
 use Rattle.qap.proofs.Standard.{sound}
 use Rattle.qap.proofs.PlaceZero.{proper-length, proper-answers, proper-check_answers}
-use Rattle.qap.proofs.Checks.{answer_words_lem, tablet_accepts, passed-agrees}
+use Rattle.qap.proofs.Checks.{answer_words_lem, tablet_accepts, passed_agrees}
 use Rattle.job_file.specs.File.{assignment_of, blinders_of, point_of, most_bytes, size_verdict, file_verdict}
 use Rattle.job_file.proofs.FileLaws.{file_ready, file_answers_ready, ends}
 use Rattle.job_file.proofs.Proper.{proper-size, proper_file}
@@ -107,7 +107,7 @@ module _ {job old new : List ℕ} (export : AnswersExport job old new 0) where
         let ready = file_ready (unpacked job) file_accepted in
         let formed = (circuit-formed (leading (unpacked job)) ready.circuit).formed in
         let read = accepted-both ready.circuit ready.assignment in
-        rw (accepted_new _ _ read) (simp length-take (omega (arith, formed.public-count.at_most, formed.column-count.at_most)))
+        rw (accepted_new _ _ read) (simp length-take (omega (arith, formed.public_count.at_most, formed.column_count.at_most)))
 
     whole : {n k : ℕ} → n ≡ 4 * k → k ≤ 9486 → Accepted (size_verdict n)
     unfolding size_verdict
@@ -131,28 +131,28 @@ module _ {job old new : List ℕ} (export : AnswersExport job old new 0) where
         check.returned ∙ ap integer (tablet_accepts sound _ _ _ _ _ called words)
 
 -- what check returns 0 for passed the sizes and the call over words
-zero-agrees : {circuit section query : List ℕ} → CheckExport circuit section query 0 →
+zero_agrees : {circuit section query : List ℕ} → CheckExport circuit section query 0 →
     AnswersAgree standard (unpacked circuit) (unpacked section) (query_point (unpacked query)) (query_answers (unpacked query))
 unfolding check_bytes_verdict
-zero-agrees {circuit} {section} {query} check =
+zero_agrees {circuit} {section} {query} check =
     let is-fine = zero-fine check.returned in
     let good : Accepted (check_bytes_verdict circuit section query) = ⊎_elim (λ all. all)
     (λ (bad : Refused (check_bytes_verdict circuit section query)).
     absurd (not_both (rw (sym (check.judged.refused bad) ∙ is-fine) accepted-fine) bad))
     (accepted_or_refused (check_bytes_verdict circuit section query)) in
     let judged = rw (goes_on _ (accepted-parts good).0) at check.judged in
-    passed-agrees sound _ _ _ _ (rw is-fine at judged)
+    passed_agrees sound _ _ _ _ (rw is-fine at judged)
 
 pub export_promises : ExportPromises
 export_promises = record {
-  zero-answers = λ export. written export;
+  zero_answers = λ export. written export;
   else_kept = λ {job} {old} {new} {r} export other. ⊎_elim
       (λ (good : Accepted (answers_bytes_verdict job (length old))). absurd (other
       (export.returned ∙ ap integer (export.filled.number_and_place ∙ (proper-answers_bytes job (length old)).fine_if_accepted good))))
       (λ (bad : Refused (answers_bytes_verdict job (length old))). export.filled.kept bad)
       (accepted_or_refused (answers_bytes_verdict job (length old)));
-  zero-agrees = λ {circuit} {section} {query} check. zero-agrees check;
+  zero_agrees = λ {circuit} {section} {query} check. zero_agrees check;
   box_and_tablet = λ export c b q check. tablet_returns export c b q check;
-  one-answers = λ {job} s t. answers_export_determined job s t;
-  one-check = λ {circuit} {section} {query} s t. check_export_determined circuit section query s t;
+  one_answers = λ {job} s t. answers_export_determined job s t;
+  one_check = λ {circuit} {section} {query} s t. check_export_determined circuit section query s t;
 }

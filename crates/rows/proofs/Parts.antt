@@ -37,11 +37,11 @@ span-whole {c = c} formed = record { ascending = omega arith; inside = omega ari
 
 pub span_private : {p : ℕ} {c a : List ℕ} → Formed p c → AssignmentFormed p c a → Span c a (publics c) (columns c)
 span_private {c = c} circuit formed =
-    record { ascending = circuit.public-count.at_most; inside = omega arith; given = assigned-inside formed (columns c) (omega arith) }
+    record { ascending = circuit.public_count.at_most; inside = omega arith; given = assigned-inside formed (columns c) (omega arith) }
 
 pub span-public : {p : ℕ} {c a : List ℕ} → Formed p c → PublicFormed p c a → Span c a 0 (publics c)
 span-public {c = c} circuit formed = record {
   ascending = omega arith;
-  inside = circuit.public-count.at_most;
+  inside = circuit.public_count.at_most;
   given = rw (public_at c (publics c) (omega arith)) (omega arith);
 }

@@ -86,7 +86,7 @@ unfolding entry_sums row_sums row_sum coef
 all-entries {p} {c} formed a matrix from to l up =
     let whole : from + (to - from) ≡ to = omega arith in
     table_same _ _ (rows c) (λ i below. ap (λ (x : ℕ). x % p)
-    (sym (rw whole at (row-entries formed.column-count.at_most (formed.matrices matrix l) (assigned c a) (suc i) from (to - from)))))
+    (sym (rw whole at (row-entries formed.column_count.at_most (formed.matrices matrix l) (assigned c a) (suc i) from (to - from)))))
 
 pub length-entry_sums : (p : ℕ) (c : List ℕ) (s : ℕ) (a : List ℕ) (from to k : ℕ) → length (entry_sums p c s a from to k) ≡ rows c
 unfolding entry_sums

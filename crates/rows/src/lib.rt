@@ -124,7 +124,7 @@ pub fn rows_verdict(
     c: &mut [u32],
 ) -> Outcome
     requires formed { Formed p circuit.now × AssignmentFormed p circuit.now values.now }
-    requires a_len { (length a.old ≡ rows circuit.now) × (length b.old ≡ rows circuit.now) × (length c.old ≡ rows circuit.now) }
+    requires lengths { (length a.old ≡ rows circuit.now) × (length b.old ≡ rows circuit.now) × (length c.old ≡ rows circuit.now) }
     ensures { RowsRead p circuit.now values.now a.new b.new c.new result }
 {
     whole_sums(circuit, 0, values, a);

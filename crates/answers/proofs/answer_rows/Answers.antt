@@ -57,7 +57,7 @@ rows_verdict-hold-requires c =
     let counted = c.rows_of-m.ensures in
     record {
       formed = (formed _ _ _ given, assignment_formed field_prime _ _ (known _ _ _ given).assignment);
-      a_len = (
+      lengths = (
         sym (lent _ _ _ given counted c.room-sums_a.ensures).size ∙ counted,
         sym (lent _ _ _ given counted c.room-sums_b.ensures).size ∙ counted,
         sym (lent _ _ _ given counted c.room-sums_c.ensures).size ∙ counted,

@@ -11,7 +11,7 @@ use Rattle.basis.proofs.first_weight.Goals as goal
 
 pub loop-k-init : goal.loop-k-init
 unfolding descent
-loop-k-init c = (search rules, record { word = search rules; leaves-one = ≈_refl p 1 })
+loop-k-init c = (search rules, record { word = search rules; leaves_one = ≈_refl p 1 })
 
 pub overflow_sub-inverses : goal.overflow_sub-inverses
 overflow_sub-inverses c =

@@ -20,7 +20,7 @@ fill_columns-requires c =
     record {
       circuit = formed;
       of_three = omega (arith, asked.of_three);
-      few = omega (arith, asked.among.at_most, formed.column-count.at_most);
+      few = omega (arith, asked.among.at_most, formed.column_count.at_most);
       size = omega (arith, asked.exact, count-points p c.args.circuit.now);
     }
 

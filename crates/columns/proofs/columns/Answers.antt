@@ -32,7 +32,7 @@ fill_columns-requires c =
     record {
       circuit = formed;
       of_three = omega (arith, all.of_three);
-      few = omega (arith, n, formed.column-count.at_most);
+      few = omega (arith, n, formed.column_count.at_most);
       size = all.exact ∙ rw (count-points p _, n);
     }
 

@@ -28,5 +28,5 @@ returns c =
     record {
       word = rw all (mod-lt _ p_positive);
       divides = rw (all, c.minus.ensures, c.times.ensures)
-          (divided three.first three.second three.third z c.inverse.result inverse.leaves-one);
+          (divided three.first three.second three.third z c.inverse.result inverse.leaves_one);
     }

@@ -16,6 +16,6 @@ returns c =
       of_nonzero =
           λ nonzero. record {
             word = found.word;
-            leaves-one = ≈_trans (≈-product (≈_sym (≈-reduced p _)) (≈_refl p _)) found.leaves-one;
+            leaves_one = ≈_trans (≈-product (≈_sym (≈-reduced p _)) (≈_refl p _)) found.leaves_one;
           };
     }

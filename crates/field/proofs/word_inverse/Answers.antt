@@ -21,7 +21,7 @@ turn {n} {rest} a f h =
 
 pub loop-rest-init : goal.loop-rest-init
 loop-rest-init c =
-    record { positive = search rules; below = search rules; word = search rules; leaves-rest = ≈-eq p (omega arith) }
+    record { positive = search rules; below = search rules; word = search rules; leaves_rest = ≈-eq p (omega arith) }
 
 pub overflow_sub-rest : goal.overflow_sub-rest
 overflow_sub-rest c = div-le_self p c.loop-rest.rest
@@ -36,10 +36,10 @@ loop-rest-preserved c =
       positive = leaves p_prime now.rest (search rules) (search rules);
       below = omega arith;
       word = search rules;
-      leaves-rest = rw c.times-factor.ensures (turn _ now.factor now.invariant.leaves-rest);
+      leaves_rest = rw c.times-factor.ensures (turn _ now.factor now.invariant.leaves_rest);
     }
 
 pub returns : goal.returns
 returns c =
     let one : c.loop-rest.rest ≡ 1 = omega arith in
-    record { word = search rules; leaves-one = rw one at c.loop-rest.invariant.leaves-rest }
+    record { word = search rules; leaves_one = rw one at c.loop-rest.invariant.leaves_rest }

@@ -9,7 +9,7 @@ pub record Leaves (a factor rest : ℕ) : Type 0 where
   pub positive : 0 < rest
   pub below : rest < p
   pub word : factor < p
-  pub leaves-rest : a * factor ≈⟨ p ⟩ rest
+  pub leaves_rest : a * factor ≈⟨ p ⟩ rest
 
 abbrev pub invariant-loop-rest : goal.invariant-loop-rest
 invariant-loop-rest l = Leaves l.a l.factor l.rest

@@ -20,7 +20,7 @@ rows_verdict-requires c =
     let size = λ (room : List ℕ) (e : room ≡ zeros 257). sym (lent c.requires.0 counted e).size ∙ counted in
     record {
       formed = c.requires;
-      a_len = (size _ c.room-a.ensures, size _ c.room-b.ensures, size _ c.room-c.ensures);
+      lengths = (size _ c.room-a.ensures, size _ c.room-b.ensures, size _ c.room-c.ensures);
     }
 
 pub slice_bounds-a-end : goal.slice_bounds-a-end

@@ -25,7 +25,7 @@ pub columns_of-n-requires : goal.columns_of-n-requires
 columns_of-n-requires c = (formed c.circuit_verdict-read.ensures c.if-read-ne0.false).counts
 
 pub overflow_cast-n : goal.overflow_cast-n
-overflow_cast-n c = omega (arith, c.columns_of-n.ensures, (formed c.circuit_verdict-read.ensures c.if-read-ne0.false).column-count.at_most)
+overflow_cast-n c = omega (arith, c.columns_of-n.ensures, (formed c.circuit_verdict-read.ensures c.if-read-ne0.false).column_count.at_most)
 
 pub rows_of-m-requires : goal.rows_of-m-requires
 rows_of-m-requires c = (formed c.circuit_verdict-read.ensures c.if-read-ne0.false).counts

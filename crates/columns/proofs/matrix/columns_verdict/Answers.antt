@@ -33,7 +33,7 @@ pub overflow_mul-n : goal.overflow_mul-n
 overflow_mul-n c =
     let accepted = formed c.circuit_verdict-read.ensures c.if-read-ne0.false in
     rw (c.columns_of-n.ensures, c.rows_of-m.ensures)
-    (omega (arith, mul-le-mul accepted.column-count.at_most (row_range accepted).at_most))
+    (omega (arith, mul-le-mul accepted.column_count.at_most (row_range accepted).at_most))
 
 pub returns : goal.returns
 unfolding columns_verdict

@@ -17,7 +17,7 @@ inverts i x = ltb x p && eqb (suc i * x % p) 1
 inverse : (i x : ℕ) → T (inverts i x) → Inverse p (suc i) x
 inverse i x t =
     let parts = both (ltb x p) _ t in
-    record { word = ltb→lt x p parts.0; leaves-one = record { same = eqb→eq _ 1 parts.1 } }
+    record { word = ltb→lt x p parts.0; leaves_one = record { same = eqb→eq _ 1 parts.1 } }
 
 tested : (t : List ℕ) → length t ≡ 256 → T (every inverts t) → InverseTable p t
 tested t e passes =

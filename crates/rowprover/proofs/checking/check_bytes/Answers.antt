@@ -28,17 +28,17 @@ room b sized made = let size = size-words _ sized in fits job_words size.whole s
 lent : (c : After-words_room-words) → Fits c.args.circuit.now c.words_room-words.result
 lent c =
     let sized = sizes-accepted _ _ _ (is_accepted c.sizes_verdict-sized.ensures c.if-sized-ne0.false) in
-    room _ sized.circuit-size c.words_room-words.ensures
+    room _ sized.circuit_size c.words_room-words.ensures
 
 read : (c : After-unpack) → Back (length c.args.circuit.now / 4) c.words_room-words.result c.unpack.new.words
 read c =
     let sized = sizes-accepted _ _ _ (is_accepted c.sizes_verdict-sized.ensures c.if-sized-ne0.false) in
-    back _ (room _ sized.circuit-size c.words_room-words.ensures).lent c.unpack.auto.words
+    back _ (room _ sized.circuit_size c.words_room-words.ensures).lent c.unpack.auto.words
 
 pub check_circuit-requires : goal.check_circuit-requires
 check_circuit-requires c =
     let lengths = sizes-accepted _ _ _ (is_accepted c.sizes_verdict-sized.ensures c.if-sized-ne0.false) in
-    (lengths.section-size, lengths.query_size)
+    (lengths.section_size, lengths.query_size)
 
 pub returns : goal.returns
 unfolding check_bytes_verdict
