@@ -1,8 +1,7 @@
 -- What the job program promises: RULES 7, RULES 10. proofs/OneText.antt fills the record.
-use Rattle.std.specs.Prelude.{List, [], ◌∷◌, ◌≡◌, ℕ}
+use Rattle.std.specs.Prelude.{List, ◌≡◌, ℕ}
 use Rattle.outcome.specs.Verdict.{fine, Accepted}
 use Rattle.packing.specs.Packing.{unpacked}
-use Rattle.text.specs.Text.{line}
 use Rattle.printed_job.specs.Lines.{program_verdict, FiveLines, Prints}
 use Rattle.printed_job.specs.TextUpTo.{TextUpTo, blank}
 

@@ -1,7 +1,6 @@
 -- An accepted circuit is well formed.
 use Rattle.outcome.proofs.Verdict.{is_accepted}
 use Rattle.circuit.proofs.Formed.{circuit-formed}
-use borrow.Author.Rules.{rules}
 use Rattle.examples.proofs.assignments.public.Goals as goal
 
 pub public_words_verdict-requires : goal.public_words_verdict-requires

@@ -1,15 +1,8 @@
-use mathlib.Core.Path.{◌≡◌}
-use Prim.Native.Nat.{◌≤◌, ◌-◌}
 use native.Mathlib.Omega.{arith}
-use lib.ListN.{length}
 use borrow.Author.Rules.{rules}
-use Rattle.circuit.specs.Circuit.{rows}
-use Rattle.circuit.specs.WellFormed.{Formed}
 use Rattle.assignment.proofs.Accepted.{both-formed, public_formed}
 use Rattle.assignment.proofs.Assigned.{section-accepted}
-use Rattle.rows.specs.Sums.{Span}
 use Rattle.rows.proofs.Parts.{span-public, span_private}
-use Rattle.field.specs.Field.{p}
 use Rattle.field.proofs.PrimeField.{field_prime}
 use Rattle.examples.proofs.row_sums.parts.Goals as goal
 
