@@ -66,21 +66,18 @@ found c =
     found_after _ (is_accepted c.prefix_verdict-begun.ensures c.if-begun-ne0.false) c.section_start-end.ensures c.rest_verdict-found.ensures
 
 -- where circuit and assignment end, in what the code has counted
-end : (w : List ℕ) {o : Outcome} {circuit wide : ℕ} → o ≡ file_verdict w → o.number ≡ 0 → circuit ≡ ending w → wide ≡ columns w →
-    let last = circuit + wide + 2 in
-    (last ≡ ending w + (columns (leading w) + 2)) × (last + 6 ≡ length w)
-end w told zero circuit wide =
-    let split = ends w (is_accepted told zero) in
-    let counted = leading-count w 2 (omega arith) in
-    (omega arith, omega arith)
-
--- the same at a place past the count of columns
-counted : (c : After-columns_of) →
+end : (c : After-columns_of) →
     let last = c.section_start-end.result + c.columns_of.result + 2 in
     (last ≡ ending c.args.words.now + (columns (leading c.args.words.now) + 2)) × (last + 6 ≡ length c.args.words.now)
-counted c =
-    let verdict = found_after _ (is_accepted c.prefix_verdict-begun.ensures c.if-begun-ne0.false) c.section_start-end.ensures c.rest_verdict-found.ensures in
-    end _ verdict c.if-found-ne0.false c.section_start-end.ensures c.columns_of.ensures
+end c =
+    let w = c.args.words.now in
+    let begun = is_accepted c.prefix_verdict-begun.ensures c.if-begun-ne0.false in
+    let told = found_after _ begun c.section_start-end.ensures c.rest_verdict-found.ensures in
+    let split = ends w (is_accepted told c.if-found-ne0.false) in
+    let counted = leading-count w 2 (omega arith) in
+    let circuit = c.section_start-end.ensures in
+    let wide = c.columns_of.ensures in
+    (omega arith, omega arith)
 
 pub returns-then-begun-ne0 : goal.returns-then-begun-ne0
 returns-then-begun-ne0 c =
@@ -92,7 +89,7 @@ returns-then-found-ne0 c =
 
 pub returns : goal.returns
 returns c =
-    let last = (counted (goal.at.returns c).After-columns_of).0 in
+    let last = (end (goal.at.returns c).After-columns_of).0 in
     let verdict = found (goal.at.returns c).After-rest_verdict-found in
     record {
       number_and_place = verdict;
@@ -127,28 +124,28 @@ pub columns_of-requires : goal.columns_of-requires
 columns_of-requires c = (prefix_formed _ (is_accepted c.prefix_verdict-begun.ensures c.if-begun-ne0.false)).counts
 
 pub overflow_add-last : goal.overflow_add-last
-overflow_add-last c = let l = counted (goal.at.overflow_add-last c).After-columns_of in search rules
+overflow_add-last c = let l = end (goal.at.overflow_add-last c).After-columns_of in search rules
 
 pub overflow_add-last-2 : goal.overflow_add-last-2
-overflow_add-last-2 c = let l = counted (goal.at.overflow_add-last-2 c).After-columns_of in search rules
+overflow_add-last-2 c = let l = end (goal.at.overflow_add-last-2 c).After-columns_of in search rules
 
 pub offset_bounds-words-last : goal.offset_bounds-words-last
-offset_bounds-words-last c = let l = counted (goal.at.offset_bounds-words-last c).After-columns_of in search rules
+offset_bounds-words-last c = let l = end (goal.at.offset_bounds-words-last c).After-columns_of in search rules
 
 pub slice_bounds-blinders_in-count : goal.slice_bounds-blinders_in-count
-slice_bounds-blinders_in-count c = let l = counted (goal.at.slice_bounds-blinders_in-count c).After-columns_of in search rules
+slice_bounds-blinders_in-count c = let l = end (goal.at.slice_bounds-blinders_in-count c).After-columns_of in search rules
 
 pub slice_bounds-blinders_in-start : goal.slice_bounds-blinders_in-start
-slice_bounds-blinders_in-start c = let l = counted (goal.at.slice_bounds-blinders_in-start c).After-columns_of in search rules
+slice_bounds-blinders_in-start c = let l = end (goal.at.slice_bounds-blinders_in-start c).After-columns_of in search rules
 
 pub blinders_in-requires : goal.blinders_in-requires
-blinders_in-requires c = let l = counted (goal.at.blinders_in-requires c).After-columns_of in rw (up_to_the_end, length-drop) (omega arith)
+blinders_in-requires c = let l = end (goal.at.blinders_in-requires c).After-columns_of in rw (up_to_the_end, length-drop) (omega arith)
 
 pub overflow_add-result : goal.overflow_add-result
-overflow_add-result c = let l = counted (goal.at.overflow_add-result c).After-columns_of in search rules
+overflow_add-result c = let l = end (goal.at.overflow_add-result c).After-columns_of in search rules
 
 pub offset_bounds-words-last-2 : goal.offset_bounds-words-last-2
-offset_bounds-words-last-2 c = let l = counted (goal.at.offset_bounds-words-last-2 c).After-columns_of in search rules
+offset_bounds-words-last-2 c = let l = end (goal.at.offset_bounds-words-last-2 c).After-columns_of in search rules
 
 pub bounds-words-last : goal.bounds-words-last
-bounds-words-last c = omega (arith, counted (goal.at.bounds-words-last c).After-columns_of)
+bounds-words-last c = omega (arith, end (goal.at.bounds-words-last c).After-columns_of)

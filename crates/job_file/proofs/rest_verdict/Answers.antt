@@ -47,9 +47,6 @@ returns c = c.given_verdict.ensures ∙ given _ _ _ c.columns_of-size.ensures
 pub slice_bounds-given_verdict-end : goal.slice_bounds-given_verdict-end
 slice_bounds-given_verdict-end c = sym (length-take-le _ _ (enough c))
 
-pub offset_bounds-rest-size : goal.offset_bounds-rest-size
-offset_bounds-rest-size c = let l = enough c in search rules
-
 pub slice_bounds-given_verdict-count : goal.slice_bounds-given_verdict-count
 slice_bounds-given_verdict-count c = let l = enough c in search rules
 

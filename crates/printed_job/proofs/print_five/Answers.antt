@@ -39,13 +39,6 @@ h-back c = back _ (room _ _ _ _ c.requires.accepted.0 c.rows_of-m.ensures c.room
 pub rows_of-m-requires : goal.rows_of-m-requires
 rows_of-m-requires c = (answers-formed _ _ _ _ c.requires.accepted.0).counts
 
-pub put_five-requires : goal.put_five-requires
-put_five-requires c =
-    let most = few _ _ _ _ c.requires.accepted.0 c.rows_of-m.ensures in
-    let z = (z-back (goal.at.put_five-requires c).After-target).size in
-    let h = (h-back (goal.at.put_five-requires c).After-quotient).size in
-    (omega arith, omega arith, c.requires.text_room_in_bounds)
-
 pub returns : goal.returns
 returns c =
     let at = goal.at.returns c in

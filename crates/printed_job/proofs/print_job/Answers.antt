@@ -1,18 +1,10 @@
 -- Refused by the verdict, or the five lines.
-use borrow.Author.Rules.{rules}
-use Rattle.outcome.proofs.Verdict.{is_accepted}
 use Rattle.printed_job.proofs.LinesLaws.{reports-refused, reports-done}
 use Rattle.printed_job.proofs.print_job.Goals as goal
 
 pub returns-then-found-ne0 : goal.returns-then-found-ne0
 returns-then-found-ne0 c =
     reports-refused _ c.answers-found.ensures.number_and_place c.if-found-ne0.true c.refuse.ensures
-
-pub print_five-requires : goal.print_five-requires
-print_five-requires c =
-    let answered = c.answers-found.ensures in
-    let accepted = is_accepted answered.number_and_place c.if-found-ne0.false in
-    record { accepted = (accepted, answered.done accepted); text_room_in_bounds = search rules }
 
 pub returns : goal.returns
 returns c =

@@ -42,11 +42,5 @@ slice_bounds-print_job-end c = sym (length-take-le _ _ (within (goal.at.slice_bo
 pub offset_bounds-words-end : goal.offset_bounds-words-end
 offset_bounds-words-end c = let l = parts (goal.at.offset_bounds-words-end c).Else-job-ne0 in search rules
 
-pub slice_bounds-print_job-count : goal.slice_bounds-print_job-count
-slice_bounds-print_job-count c = let l = parts (goal.at.slice_bounds-print_job-count c).Else-job-ne0 in search rules
-
-pub slice_bounds-print_job-start : goal.slice_bounds-print_job-start
-slice_bounds-print_job-start c = let l = parts (goal.at.slice_bounds-print_job-start c).Else-job-ne0 in search rules
-
 pub slice_bounds-print_job-end-2 : goal.slice_bounds-print_job-end-2
 slice_bounds-print_job-end-2 c = let l = parts (goal.at.slice_bounds-print_job-end-2 c).Else-job-ne0 in search rules

@@ -3,7 +3,7 @@ use mathlib.Core.List.{List}
 use mathlib.Core.Path.{◌≡◌}
 use Prim.Native.Nat.{ℕ, ◌/◌}
 use lib.ListN.{length}
-use Rattle.outcome.specs.declared.Outcome.{Outcome}
+use Rattle.outcome.specs.Verdict.{Accepted}
 use Rattle.outcome.proofs.Chain.{called-refused}
 use Rattle.outcome.proofs.Verdict.{is_accepted, goes_on}
 use Rattle.slices.specs.Zeros.{zeros}
@@ -21,16 +21,16 @@ pub returns-then-sized-ne0 : goal.returns-then-sized-ne0
 unfolding answers_bytes_verdict
 returns-then-sized-ne0 c = filled-refused _ (called-refused _ c.size_verdict-sized.ensures c.if-sized-ne0.true) _ c.if-sized-ne0.true
 
-room : (b : List ℕ) {o : Outcome} {words : List ℕ} → o ≡ size_verdict (length b) → o.number ≡ 0 → words ≡ zeros job_words → Fits b words
-room b told zero made =
-    let size = size-words _ (is_accepted told zero) in
-    fits job_words size.whole size.few made
+room : (b : List ℕ) {words : List ℕ} → Accepted (size_verdict (length b)) → words ≡ zeros job_words → Fits b words
+room b sized made = let size = size-words _ sized in fits job_words size.whole size.few made
 
 lent : (c : After-words_room-words) → Fits c.args.job.now c.words_room-words.result
-lent c = room _ c.size_verdict-sized.ensures c.if-sized-ne0.false c.words_room-words.ensures
+lent c = room _ (is_accepted c.size_verdict-sized.ensures c.if-sized-ne0.false) c.words_room-words.ensures
 
 read : (c : After-unpack) → Back (length c.args.job.now / 4) c.words_room-words.result c.unpack.new.words
-read c = back _ (room _ c.size_verdict-sized.ensures c.if-sized-ne0.false c.words_room-words.ensures).lent c.unpack.auto.words
+read c =
+    let accepted = is_accepted c.size_verdict-sized.ensures c.if-sized-ne0.false in
+    back _ (room _ accepted c.words_room-words.ensures).lent c.unpack.auto.words
 
 pub returns : goal.returns
 unfolding answers_bytes_verdict

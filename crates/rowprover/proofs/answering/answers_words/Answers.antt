@@ -57,11 +57,5 @@ slice_bounds-answers_of-end c = let l = parts (goal.at.slice_bounds-answers_of-e
 pub offset_bounds-words-end : goal.offset_bounds-words-end
 offset_bounds-words-end c = let l = parts (goal.at.offset_bounds-words-end c).Else-read-ne0 in search rules
 
-pub slice_bounds-answers_of-count : goal.slice_bounds-answers_of-count
-slice_bounds-answers_of-count c = let l = parts (goal.at.slice_bounds-answers_of-count c).Else-read-ne0 in search rules
-
-pub slice_bounds-answers_of-start : goal.slice_bounds-answers_of-start
-slice_bounds-answers_of-start c = let l = parts (goal.at.slice_bounds-answers_of-start c).Else-read-ne0 in search rules
-
 pub slice_bounds-answers_of-end-2 : goal.slice_bounds-answers_of-end-2
 slice_bounds-answers_of-end-2 c = let l = parts (goal.at.slice_bounds-answers_of-end-2 c).Else-read-ne0 in search rules

@@ -12,14 +12,11 @@ use Rattle.job_file.proofs.FileLaws.{size-words}
 use Rattle.job_file.specs.File.{size_verdict}
 use Rattle.rowprover.specs.Exports.{most_section_bytes}
 use Rattle.rowprover.proofs.checking.check_section.Goals as goal
-use Rattle.rowprover.proofs.checking.check_section.Goals.{After-room-words, After-unpack}
+use Rattle.rowprover.proofs.checking.check_section.Goals.{After-unpack}
 
 room : (b : List ℕ) {words : List ℕ} →
     Accepted (size_verdict (length b)) → length b ≤ most_section_bytes → words ≡ zeros 257 → Fits b words
 room b sized few made = fits 257 (size-words _ sized).whole (omega arith) made
-
-lent : (c : After-room-words) → Fits c.args.section.now c.room-words.result
-lent c = room _ c.requires.0 c.requires.1 c.room-words.ensures
 
 read : (c : After-unpack) → Back (length c.args.section.now / 4) c.room-words.result c.unpack.new.words
 read c = back _ (room _ c.requires.0 c.requires.1 c.room-words.ensures).lent c.unpack.auto.words
@@ -28,17 +25,5 @@ pub returns : goal.returns
 returns c =
     rw ((read (goal.at.returns c).After-unpack).words, c.unpack.ensures) at c.check_words.ensures
 
-pub slice_bounds-words-end : goal.slice_bounds-words-end
-slice_bounds-words-end c = (lent c).lent.fits
-
-pub slice_bounds-unpack-end : goal.slice_bounds-unpack-end
-slice_bounds-unpack-end c = (lent (goal.at.slice_bounds-unpack-end c).After-room-words).lent.size
-
 pub unpack-requires : goal.unpack-requires
-unpack-requires c = (lent (goal.at.unpack-requires c).After-room-words).whole
-
-pub slice_bounds-words-end-2 : goal.slice_bounds-words-end-2
-slice_bounds-words-end-2 c = (read (goal.at.slice_bounds-words-end-2 c).After-unpack).fits
-
-pub slice_bounds-check_words-end : goal.slice_bounds-check_words-end
-slice_bounds-check_words-end c = (read (goal.at.slice_bounds-check_words-end c).After-unpack).size
+unpack-requires c = (room _ c.requires.0 c.requires.1 c.room-words.ensures).whole
