@@ -117,10 +117,10 @@ pub ends : (w : List ℕ) → Accepted (file_verdict w) → Ends w
 unfolding file_verdict
 ends w h =
     let ready = file_ready w h in
-    let in_words_lem = ends-within (prefix_formed w (accepted-parts h).0) in
+    let inside = ends-within (prefix_formed w (accepted-parts h).0) in
     let remains = simp length-drop at ready.remains in
     record {
-      circuit = length-take-le (ending w) w in_words_lem;
+      circuit = length-take-le (ending w) w inside;
       assignment = (assignment_formed field_prime _ _ ready.assignment).size;
       within = omega arith;
       whole = omega arith;

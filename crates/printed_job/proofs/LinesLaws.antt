@@ -73,7 +73,7 @@ module _ (c a : List ℕ) (d : Blinders) (s : ℕ) (h : Accepted (answers_verdic
       IsAnswers standard c a d s r → m ≡ rows c → length z ≡ rows c + 1 → length f ≡ rows c + 1 →
       TargetCall standard m z z' o → QuotientCall standard c a d f f' o' → b ≡ public_section p c a → CheckAnswersCall standard c b s r check →
       TextUpTo (λ t. t ≡ five_lines z' f' r check.number) before bytes end → TextUpTo (FiveOf c a d s) before bytes end
-  five_written {r} {z = z} {z' = z'} {f' = f'} {o = o} {check = check} answered rows_of_lem z-size f-size target quotient handed judged w = record {
+  five_written {r} {z = z} {z' = z'} {f' = f'} {o = o} {check = check} answered rows_is z-size f-size target quotient handed judged w = record {
     says = record {
       quotient = f';
       answers = r;
@@ -88,7 +88,7 @@ module _ (c a : List ℕ) (d : Blinders) (s : ℕ) (h : Accepted (answers_verdic
   }
     where
       counted : TargetCall standard (rows c) z z' o
-      counted = rw rows_of_lem at target
+      counted = rw rows_is at target
 
       z_is : z' ≡ target_of standard c
       z_is = counted.done (target-accepted z-size)
