@@ -1,8 +1,8 @@
 -- Assignment words and public sections: what they mean, and the verdict over them.
 -- RULES 3, and numbers 6 and 7 of RULES 6.
-use Rattle.std.specs.Prelude.{true, false, List, [], ℕ, ◌+◌, ◌-◌, leb, eqb, length, take}
+use Rattle.std.specs.Prelude.{Result, Ok, Err, ⊤, true, false, List, [], ℕ, ◌+◌, ◌-◌, leb, eqb, length, take}
 use Rattle.outcome.specs.declared.Outcome.{Outcome}
-use Rattle.outcome.specs.Verdict.{require, ◌and_then◌, first_fault, when_accepted}
+use Rattle.outcome.specs.Verdict.{outcome, fine, require, ◌and_then◌, first_fault, when_accepted}
 use Rattle.circuit.specs.Circuit.{word, publics, columns}
 use Rattle.circuit.specs.Reader.{circuit_verdict}
 
@@ -17,6 +17,11 @@ assigned c a j = word a (assigned_at c j)
 -- a word above p − 1, at the lowest such index; the list's indices begin with `from`
 unfoldable pub words_verdict : ℕ → ℕ → ℕ → List ℕ → Outcome
 words_verdict p number from a = first_fault (λ i. require (leb (word a i) (p - 1)) number (from + i)) (length a)
+
+-- a first faulty index, or none, as number and place
+abbrev pub at_index : Result ⊤ ℕ → ℕ → ℕ → Outcome
+at_index (Ok x) number from = fine
+at_index (Err i) number from = outcome number (from + i)
 
 -- 7: the first public value not 1, or a value above p − 1, at the lowest such index. The counts stand among the words;
 -- 6 held them to the circuit's, so they are never above p − 1.

@@ -1,4 +1,5 @@
 pub mod Verdict
 pub mod Chain
+pub mod Asked
 pub mod Scan
 pub mod Near

@@ -26,11 +26,5 @@ pub record Sections (c : List ℕ) (matrix start : ℕ) : Type 0 where
 abbrev pub invariant-loop-e : goal.invariant-loop-e
 invariant-loop-e l = Entries l.words l.start l.e
 
-abbrev pub decreases-loop-e : goal.decreases-loop-e
-decreases-loop-e l = l.entries - l.e
-
-abbrev pub invariant-sections : goal.invariant-sections
-invariant-sections l = Sections l.words l.matrix l.start
-
-abbrev pub decreases-sections : goal.decreases-sections
-decreases-sections l = 3 - l.matrix
+abbrev pub invariant-loop-matrix : goal.invariant-loop-matrix
+invariant-loop-matrix l = Sections l.words l.matrix l.start
