@@ -13,13 +13,16 @@ use outcome::{Refusal, require};
 pub fn field_words(words: &[u32]) -> Result<(), usize>
     ensures { (number first : ℕ) → 0 < number → at_index result number first ≡ words_verdict p number first words.now }
 {
-    match words.iter().position(|word| *word > field::MINUS_ONE) {
-        None => Ok(()),
-        Some(i) => Err(i),
+    for (i, &word) in words.iter().enumerate() {
+        if word > field::MINUS_ONE {
+            return Err(i);
+        }
     }
+    Ok(())
 }
 
 // 7: the first value is 1, and every word a field word.
+#[tactic(auto, using(outcome::proofs::Asked::asked), unfolding(crate::specs::Assignment::values_verdict))]
 fn values_verdict(values: &[u32]) -> Result<(), Refusal>
     requires { 2 ≤ length values.now }
     ensures { outcome_of result ≡ values_verdict p values.now }
@@ -44,14 +47,14 @@ pub fn assignment_words_verdict(circuit: &[u32], values: &[u32]) -> Result<(), R
 
 // The same for a public section alone.
 #[tactic(auto, using(outcome::proofs::Asked::asked), unfolding(crate::specs::Assignment::public_verdict))]
-pub fn public_words_verdict(circuit: &[u32], values: &[u32]) -> Result<(), Refusal>
+pub fn public_words_verdict(circuit: &[u32], section: &[u32]) -> Result<(), Refusal>
     requires { Formed p circuit.now }
-    ensures { outcome_of result ≡ public_verdict p circuit.now values.now }
+    ensures { outcome_of result ≡ public_verdict p circuit.now section.now }
 {
     let q = circuit::counts::publics_of(circuit);
-    require(values.len() == q + 1, Refusal::Shape)?;
-    require(values[0] as usize == q, Refusal::Shape)?;
-    values_verdict(values)
+    require(section.len() == q + 1, Refusal::Shape)?;
+    require(section[0] as usize == q, Refusal::Shape)?;
+    values_verdict(section)
 }
 
 // The circuit, then the assignment.
