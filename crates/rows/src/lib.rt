@@ -2,6 +2,7 @@
 #![tactic(auto)]
 
 ghost use Rattle.std.specs.Prelude.{◌≡◌, ◌+◌, ◌≤◌, length};
+ghost use Rattle.outcome.specs.Verdict.{outcome_of};
 ghost use Rattle.circuit.specs.Limits.{most_columns};
 ghost use Rattle.circuit.specs.Circuit.{rows, columns, entries, entry_at};
 ghost use Rattle.circuit.specs.WellFormed.{EntryFormed, SectionFormed, Formed, RowWords};
@@ -12,7 +13,7 @@ ghost use Rattle.field.specs.Field.{p};
 ghost use Rattle.rows.specs.Rows.{row_sums};
 ghost use Rattle.rows.specs.Sums.{Span, entry_sums, with_entry, sums_verdict, RowsRead};
 
-use outcome::{Outcome, fine, require};
+use outcome::{Refusal, require};
 
 // The index of a column's value in an assignment.
 fn assigned_at(circuit: &[u32], column: usize) -> usize
@@ -66,10 +67,8 @@ fn add_entries(
     ensures { out.new ≡ entry_sums p circuit.now start values.now from to (entries circuit.now start) }
 {
     let entries = circuit[start] as usize;
-    let mut e = 0;
-    while e < entries {
+    for e in 0..entries {
         add_entry(circuit, start, e, values, from, to, out);
-        e += 1;
     }
 }
 
@@ -100,19 +99,14 @@ pub fn whole_sums(circuit: &[u32], matrix: usize, values: &[u32], out: &mut [u32
 }
 
 // The lowest row where the product of the first two sums is not the third.
-fn sums_verdict(a: &[u32], b: &[u32], c: &[u32]) -> Outcome
+fn sums_verdict(a: &[u32], b: &[u32], c: &[u32]) -> Result<(), Refusal>
     requires { (length b.now ≡ length a.now) × (length c.now ≡ length a.now) }
-    ensures { result ≡ sums_verdict p a.now b.now c.now }
+    ensures { outcome_of result ≡ sums_verdict p a.now b.now c.now }
 {
-    let mut i = 0;
-    while i < a.len() {
-        let found = require(field::times(a[i], b[i]) == c[i], 10, i + 1);
-        if found.number != 0 {
-            return found;
-        }
-        i += 1;
+    for i in 0..a.len() {
+        require(field::times(a[i], b[i]) == c[i], Refusal::Row(i + 1))?;
     }
-    fine()
+    Ok(())
 }
 
 // The three lists of sums over all columns, and 10 at the lowest failing row.
@@ -122,10 +116,10 @@ pub fn rows_verdict(
     a: &mut [u32],
     b: &mut [u32],
     c: &mut [u32],
-) -> Outcome
+) -> Result<(), Refusal>
     requires formed { Formed p circuit.now × AssignmentFormed p circuit.now values.now }
     requires lengths { (length a.old ≡ rows circuit.now) × (length b.old ≡ rows circuit.now) × (length c.old ≡ rows circuit.now) }
-    ensures { RowsRead p circuit.now values.now a.new b.new c.new result }
+    ensures { RowsRead p circuit.now values.now a.new b.new c.new (outcome_of result) }
 {
     whole_sums(circuit, 0, values, a);
     whole_sums(circuit, 1, values, b);
