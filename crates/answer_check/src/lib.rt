@@ -2,7 +2,7 @@
 #![tactic(auto)]
 
 ghost use Rattle.std.specs.Prelude.{◌≡◌, ◌+◌, ◌*◌};
-ghost use Rattle.outcome.specs.Verdict.{Accepted};
+ghost use Rattle.outcome.specs.Verdict.{outcome_of, Accepted};
 ghost use Rattle.algebra.specs.Congruence.{◌≈⟨◌⟩◌};
 ghost use Rattle.field.specs.Field.{p};
 ghost use Rattle.qap.specs.declared.FourAnswers.{FourAnswers};
@@ -12,24 +12,21 @@ ghost use Rattle.qap.specs.Calls.{CheckAnswersCall};
 ghost use Rattle.refusals.specs.Decides.{Decides};
 ghost use Rattle.qap.specs.Setting.{standard};
 
-use outcome::Outcome;
+use outcome::Refusal;
 use qap::FourAnswers;
 
-fn check_answers_verdict(circuit: &[u32], section: &[u32], s: u32, r: FourAnswers) -> Outcome
-    ensures { result ≡ check_answers_verdict standard circuit.now section.now s r }
+#[tactic(auto, using(outcome::proofs::Asked::asked, circuit::proofs::Formed::formed_behind), unfolding(qap::specs::Refusals::check_answers_verdict))]
+fn check_answers_verdict(
+    circuit: &[u32],
+    section: &[u32],
+    s: u32,
+    r: FourAnswers,
+) -> Result<(), Refusal>
+    ensures { outcome_of result ≡ check_answers_verdict standard circuit.now section.now s r }
 {
-    let read = reader::circuit_verdict(circuit);
-    if read.number != 0 {
-        return read;
-    }
-    let given = assignment::public_words_verdict(circuit, section);
-    if given.number != 0 {
-        return given;
-    }
-    let answered = refusals::answers_verdict(r);
-    if answered.number != 0 {
-        return answered;
-    }
+    reader::circuit_verdict(circuit)?;
+    assignment::public_words_verdict(circuit, section)?;
+    refusals::answers_verdict(r)?;
     refusals::point_verdict(circuit, s)
 }
 
@@ -40,10 +37,7 @@ fn words_agree(r: FourAnswers, part_a: u32, part_b: u32, part_c: u32, z: u32) ->
     let u = field::plus(r.first, part_a);
     let v = field::plus(r.second, part_b);
     let t = field::plus(r.third, part_c);
-    if field::times(u, v) == field::add_scaled(t, z, r.fourth) {
-        return true;
-    }
-    false
+    field::times(u, v) == field::add_scaled(t, z, r.fourth)
 }
 
 // The answer check's equality at s.
@@ -63,12 +57,14 @@ fn answers_agree(circuit: &[u32], section: &[u32], s: u32, r: FourAnswers) -> bo
 }
 
 // Four answers to the point s, beside a public section.
-pub fn check_answers(circuit: &[u32], section: &[u32], s: u32, r: FourAnswers) -> Outcome
-    ensures { CheckAnswersCall standard circuit.now section.now s r result }
+pub fn check_answers(
+    circuit: &[u32],
+    section: &[u32],
+    s: u32,
+    r: FourAnswers,
+) -> Result<(), Refusal>
+    ensures { CheckAnswersCall standard circuit.now section.now s r (outcome_of result) }
 {
-    let verdict = check_answers_verdict(circuit, section, s, r);
-    if verdict.number != 0 {
-        return verdict;
-    }
+    check_answers_verdict(circuit, section, s, r)?;
     refusals::judged(answers_agree(circuit, section, s, r))
 }

@@ -1,7 +1,8 @@
 -- What the answers call gives once the checks before 10 have passed, and what it works from once 10 has too. RULES 5.
-use Rattle.std.specs.Prelude.{◌≡◌, List, ℕ}
+use Rattle.std.specs.Prelude.{Result, Ok, Err, ◌≡◌, List, ℕ}
 use Rattle.outcome.specs.declared.Outcome.{Outcome}
-use Rattle.outcome.specs.Verdict.{Accepted, Refused}
+use Rattle.outcome.specs.declared.Refusal.{Refusal}
+use Rattle.outcome.specs.Verdict.{told, Accepted, Refused}
 use Rattle.rows.specs.Rows.{rows_verdict}
 use Rattle.rows.specs.Sums.{WholeSums}
 use Rattle.qap.specs.declared.Blinders.{Blinders}
@@ -10,6 +11,11 @@ use Rattle.qap.specs.Answers.{IsAnswers}
 use Rattle.qap.specs.Refusals.{answers_verdict}
 use Rattle.qap.specs.Calls.{no_answers}
 use Rattle.qap.specs.Setting.{row_setting}
+
+-- the answers that a result holds: all 0 where it refuses
+abbrev pub answers_of : Result FourAnswers Refusal → FourAnswers
+answers_of (Ok r) = r
+answers_of (Err refusal) = no_answers
 
 pub record RowsAnswered (p : ℕ) (c a : List ℕ) (d : Blinders) (s : ℕ) (o : Outcome) (r : FourAnswers) : Type 0 where
   pub number_and_place : o ≡ rows_verdict p c a

@@ -2,39 +2,17 @@
 #![tactic(auto)]
 
 ghost use Rattle.std.specs.Prelude.{◌≡◌};
-ghost use Rattle.outcome.specs.Verdict.{Accepted};
+ghost use Rattle.outcome.specs.Verdict.{outcome_of, Accepted};
 ghost use Rattle.field.specs.Field.{p};
 ghost use Rattle.qap.specs.declared.Blinders.{Blinders};
 ghost use Rattle.qap.specs.Answers.{IsAnswers};
 ghost use Rattle.qap.specs.Refusals.{ready_verdict, point_verdict};
-ghost use Rattle.qap.specs.Calls.{no_answers, AnswersCall};
+ghost use Rattle.qap.specs.Calls.{AnswersCall};
 ghost use Rattle.qap.specs.Setting.{standard};
-ghost use Rattle.answers.specs.RowsAnswered.{AnswersGiven, RowsAnswered};
+ghost use Rattle.answers.specs.RowsAnswered.{answers_of, AnswersGiven, RowsAnswered};
 
-use outcome::Outcome;
+use outcome::Refusal;
 use qap::{Blinders, FourAnswers};
-
-// What the answers call gives back: number and place, and the four answers, all 0 where the number is not 0.
-#[derive(Clone, Copy)]
-pub struct Answered {
-    pub outcome: Outcome,
-    pub numbers: FourAnswers,
-}
-
-// A refusal: no answers.
-fn none(outcome: Outcome) -> Answered
-    ensures { (result.outcome ≡ outcome) × (result.numbers ≡ no_answers) }
-{
-    Answered {
-        outcome: outcome,
-        numbers: FourAnswers {
-            first: 0,
-            second: 0,
-            third: 0,
-            fourth: 0,
-        },
-    }
-}
 
 // Private parts for the first three; for the fourth A'(s), B'(s), C'(s) from the row sums over all columns.
 fn four_answers(
@@ -64,25 +42,27 @@ fn four_answers(
 }
 
 // What the call gives once the checks before 10 have passed. The row sums over all columns serve 10 and the fourth answer.
-pub fn answer_rows(circuit: &[u32], values: &[u32], d: Blinders, s: u32) -> Answered
+pub fn answer_rows(
+    circuit: &[u32],
+    values: &[u32],
+    d: Blinders,
+    s: u32,
+) -> Result<FourAnswers, Refusal>
     requires { Accepted (ready_verdict standard circuit.now values.now d) × Accepted (point_verdict standard circuit.now s) }
-    ensures { RowsAnswered p circuit.now values.now d s result.outcome result.numbers }
+    ensures { RowsAnswered p circuit.now values.now d s (outcome_of result) (answers_of result) }
 {
     let m = circuit::counts::rows_of(circuit);
     let mut sums_a = slices::room();
     let mut sums_b = slices::room();
     let mut sums_c = slices::room();
-    let hold = rows::rows_verdict(
+    rows::rows_verdict(
         circuit,
         values,
         &mut sums_a[..m],
         &mut sums_b[..m],
         &mut sums_c[..m],
-    );
-    if hold.number != 0 {
-        return none(hold);
-    }
-    let numbers = four_answers(
+    )?;
+    Ok(four_answers(
         circuit,
         values,
         d,
@@ -90,24 +70,14 @@ pub fn answer_rows(circuit: &[u32], values: &[u32], d: Blinders, s: u32) -> Answ
         &sums_a[..m],
         &sums_b[..m],
         &sums_c[..m],
-    );
-    Answered {
-        outcome: hold,
-        numbers,
-    }
+    ))
 }
 
 // The four answers at s.
-pub fn answers(circuit: &[u32], values: &[u32], d: Blinders, s: u32) -> Answered
-    ensures { AnswersCall standard circuit.now values.now d s result.outcome result.numbers }
+pub fn answers(circuit: &[u32], values: &[u32], d: Blinders, s: u32) -> Result<FourAnswers, Refusal>
+    ensures { AnswersCall standard circuit.now values.now d s (outcome_of result) (answers_of result) }
 {
-    let ready = refusals::ready_verdict(circuit, values, d);
-    if ready.number != 0 {
-        return none(ready);
-    }
-    let pointed = refusals::point_verdict(circuit, s);
-    if pointed.number != 0 {
-        return none(pointed);
-    }
+    refusals::ready_verdict(circuit, values, d)?;
+    refusals::point_verdict(circuit, s)?;
     answer_rows(circuit, values, d, s)
 }

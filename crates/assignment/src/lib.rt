@@ -1,7 +1,7 @@
 // Assignments and public sections: numbers 6 and 7 of the table of RULES 6, and the public section handed out.
 #![tactic(auto)]
 
-ghost use Rattle.std.specs.Prelude.{◌≡◌, ◌≤◌, ◌<◌, ℕ, length};
+ghost use Rattle.std.specs.Prelude.{◌≡◌, ◌≤◌, ◌<◌, ℕ, IfErr, length};
 ghost use Rattle.outcome.specs.Verdict.{outcome_of};
 ghost use Rattle.circuit.specs.WellFormed.{Formed};
 ghost use Rattle.field.specs.Field.{p};
@@ -11,7 +11,8 @@ use outcome::{Refusal, require};
 
 // Every word a field word, or the index of the first that is none.
 pub fn field_words(words: &[u32]) -> Result<(), usize>
-    ensures { (number first : ℕ) → 0 < number → at_index result number first ≡ words_verdict p number first words.now }
+    ensures inside { IfErr result (λ i. i < length words.now) }
+    ensures verdict { (number first : ℕ) → 0 < number → at_index result number first ≡ words_verdict p number first words.now }
 {
     for (i, &word) in words.iter().enumerate() {
         if word > field::MINUS_ONE {
@@ -58,7 +59,7 @@ pub fn public_words_verdict(circuit: &[u32], section: &[u32]) -> Result<(), Refu
 }
 
 // The circuit, then the assignment.
-#[tactic(auto, using(outcome::proofs::Asked::asked), unfolding(crate::specs::Assignment::circuit_then_assignment))]
+#[tactic(auto, using(outcome::proofs::Asked::asked, circuit::proofs::Formed::formed_behind), unfolding(crate::specs::Assignment::circuit_then_assignment))]
 pub fn assignment_verdict(circuit: &[u32], values: &[u32]) -> Result<(), Refusal>
     ensures { outcome_of result ≡ circuit_then_assignment p circuit.now values.now }
 {

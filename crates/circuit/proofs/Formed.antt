@@ -1,5 +1,6 @@
 -- A verdict accepts exactly where the words are well formed: each check is one field of the record. RULES 2.
 use mathlib.Core.List.{List}
+use mathlib.Core.Path.{◌≡◌}
 use Prim.Native.Nat.{ℕ}
 use borrow.Author.Tests.{le-leb, lt-ltb, eq-eqb, leb-true, ltb-true, eqb-true}
 use lib.Dec.{lit<}
@@ -78,6 +79,10 @@ module _ {p : ℕ} where
   circuit-formed c h =
       let parts = accepted-parts h in
       record { formed = prefix_formed c parts.0; whole = eqb-true _ _ (require-accepted _ _ _ (lit< tt) parts.1) }
+
+  -- the same as `grind` takes it
+  pub formed_behind : (c : List ℕ) → (circuit_verdict p c).number ≡ 0 → Formed p c
+  formed_behind c h = (circuit-formed c (record { is_zero = h })).formed
 
   pub circuit-accepted : {c : List ℕ} → WellFormed p c → Accepted (circuit_verdict p c)
   unfolding circuit_verdict

@@ -1,44 +1,50 @@
 // The columns of a matrix (RULES 4): the verdicts of the two column calls, and what writes their words.
-ghost use Rattle.std.specs.Prelude.{◌≡◌, ◌+◌, ◌≤◌, ◌<◌, length};
+ghost use Rattle.std.specs.Prelude.{◌≡◌, ◌+◌, ◌≤◌, ◌<◌, leb, length};
+ghost use Rattle.outcome.specs.Verdict.{outcome_of, require, ◌and_then◌};
 ghost use Rattle.field.specs.Field.{p};
 ghost use Rattle.basis.specs.Column.{Prepared};
 ghost use Rattle.circuit.specs.Limits.{most_rows};
 ghost use Rattle.circuit.specs.Circuit.{rows};
 ghost use Rattle.circuit.specs.WellFormed.{RowWords};
+ghost use Rattle.circuit.specs.Reader.{circuit_verdict};
 ghost use Rattle.qap.specs.Polynomials.{Column};
 ghost use Rattle.qap.specs.Refusals.{column_verdict, columns_verdict};
 ghost use Rattle.qap.specs.Setting.{standard};
 ghost use Rattle.columns.specs.Columns.{ColumnsRoom, ColumnsFrom};
 
-use outcome::{Outcome, require, within};
+use outcome::{Refusal, require, within};
 use refusals::length_verdict;
 
-// The circuit, then 9 for both numbers, then 8.
-pub fn column_verdict(circuit: &[u32], matrix: u32, column: u32, size: usize) -> Outcome
-    ensures { result ≡ column_verdict standard circuit.now matrix column size }
+// The circuit, then 9 for the matrix number.
+#[tactic(auto, using(outcome::proofs::Asked::asked))]
+fn matrix_verdict(circuit: &[u32], matrix: u32) -> Result<(), Refusal>
+    ensures { outcome_of result ≡ circuit_verdict p circuit.now and_then require (leb matrix 2) 9 0 }
 {
-    let read = reader::circuit_verdict(circuit);
-    if read.number != 0 {
-        return read;
-    }
+    reader::circuit_verdict(circuit)?;
+    require(matrix <= 2, Refusal::Column)
+}
+
+// The circuit, then 9 for both numbers, then 8.
+#[tactic(auto, using(outcome::proofs::Asked::asked, circuit::proofs::Formed::formed_behind), unfolding(qap::specs::Refusals::column_verdict))]
+pub fn column_verdict(circuit: &[u32], matrix: u32, column: u32, size: usize) -> Result<(), Refusal>
+    ensures { outcome_of result ≡ column_verdict standard circuit.now matrix column size }
+{
+    matrix_verdict(circuit, matrix)?;
     let n = circuit::counts::columns_of(circuit) as u32;
     let m = circuit::counts::rows_of(circuit);
-    require(matrix <= 2, 9, 0)
-        .and_then(require(within(1, column, n), 9, 0))
-        .and_then(length_verdict(size, m))
+    require(within(1, column, n), Refusal::Column)?;
+    length_verdict(size, m)
 }
 
 // The circuit, then 9 for the matrix number alone, then 8.
-pub fn columns_verdict(circuit: &[u32], matrix: u32, size: usize) -> Outcome
-    ensures { result ≡ columns_verdict standard circuit.now matrix size }
+#[tactic(auto, using(outcome::proofs::Asked::asked, circuit::proofs::Formed::formed_behind), unfolding(qap::specs::Refusals::columns_verdict))]
+pub fn columns_verdict(circuit: &[u32], matrix: u32, size: usize) -> Result<(), Refusal>
+    ensures { outcome_of result ≡ columns_verdict standard circuit.now matrix size }
 {
-    let read = reader::circuit_verdict(circuit);
-    if read.number != 0 {
-        return read;
-    }
+    matrix_verdict(circuit, matrix)?;
     let n = circuit::counts::columns_of(circuit);
     let m = circuit::counts::rows_of(circuit);
-    require(matrix <= 2, 9, 0).and_then(length_verdict(size, n * m))
+    length_verdict(size, n * m)
 }
 
 // The target and the basis weights of 1..m, into m + 1 and m words.

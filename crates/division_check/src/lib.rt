@@ -2,7 +2,7 @@
 #![tactic(auto)]
 
 ghost use Rattle.std.specs.Prelude.{◌≡◌, length};
-ghost use Rattle.outcome.specs.Verdict.{Accepted};
+ghost use Rattle.outcome.specs.Verdict.{outcome_of, Accepted};
 ghost use Rattle.qap.specs.declared.Blinders.{Blinders};
 ghost use Rattle.qap.specs.Answers.{CandidateDivides};
 ghost use Rattle.qap.specs.Refusals.{check_division_verdict};
@@ -10,25 +10,20 @@ ghost use Rattle.qap.specs.Calls.{CheckDivisionCall};
 ghost use Rattle.refusals.specs.Decides.{Decides};
 ghost use Rattle.qap.specs.Setting.{standard};
 
-use outcome::Outcome;
+use outcome::Refusal;
 use qap::Blinders;
 
+#[tactic(auto, using(outcome::proofs::Asked::asked), unfolding(qap::specs::Refusals::check_division_verdict))]
 fn check_division_verdict(
     circuit: &[u32],
     values: &[u32],
     d: Blinders,
     candidate: &[u32],
-) -> Outcome
-    ensures { result ≡ check_division_verdict standard circuit.now values.now d candidate.now }
+) -> Result<(), Refusal>
+    ensures { outcome_of result ≡ check_division_verdict standard circuit.now values.now d candidate.now }
 {
-    let ready = refusals::ready_verdict(circuit, values, d);
-    if ready.number != 0 {
-        return ready;
-    }
-    let words = assignment::words_verdict(candidate, 12, 3);
-    if words.number != 0 {
-        return words;
-    }
+    refusals::ready_verdict(circuit, values, d)?;
+    assignment::field_words(candidate).map_err(|i| Refusal::Given(3 + i))?;
     let m = circuit::counts::rows_of(circuit);
     refusals::length_verdict(candidate.len(), m + 1)
 }
@@ -63,12 +58,14 @@ fn candidate_divides(circuit: &[u32], values: &[u32], d: Blinders, candidate: &[
 }
 
 // A candidate for the quotient of the blinded polynomials.
-pub fn check_division(circuit: &[u32], values: &[u32], d: Blinders, candidate: &[u32]) -> Outcome
-    ensures { CheckDivisionCall standard circuit.now values.now d candidate.now result }
+pub fn check_division(
+    circuit: &[u32],
+    values: &[u32],
+    d: Blinders,
+    candidate: &[u32],
+) -> Result<(), Refusal>
+    ensures { CheckDivisionCall standard circuit.now values.now d candidate.now (outcome_of result) }
 {
-    let verdict = check_division_verdict(circuit, values, d, candidate);
-    if verdict.number != 0 {
-        return verdict;
-    }
+    check_division_verdict(circuit, values, d, candidate)?;
     refusals::judged(candidate_divides(circuit, values, d, candidate))
 }

@@ -2,27 +2,27 @@
 #![tactic(auto)]
 
 ghost use Rattle.std.specs.Prelude.{◌≡◌, length};
-ghost use Rattle.outcome.specs.Verdict.{Accepted};
+ghost use Rattle.outcome.specs.Verdict.{outcome_of, Accepted};
 ghost use Rattle.qap.specs.declared.Blinders.{Blinders};
 ghost use Rattle.qap.specs.Polynomials.{IsQuotient};
 ghost use Rattle.qap.specs.Refusals.{quotient_verdict};
 ghost use Rattle.qap.specs.Calls.{QuotientCall};
 ghost use Rattle.qap.specs.Setting.{standard};
 
-use outcome::Outcome;
+use outcome::Refusal;
 use qap::Blinders;
 
-fn quotient_verdict(circuit: &[u32], values: &[u32], d: Blinders, size: usize) -> Outcome
-    ensures { result ≡ quotient_verdict standard circuit.now values.now d size }
+#[tactic(auto, using(outcome::proofs::Asked::asked), unfolding(qap::specs::Refusals::quotient_verdict))]
+fn quotient_verdict(
+    circuit: &[u32],
+    values: &[u32],
+    d: Blinders,
+    size: usize,
+) -> Result<(), Refusal>
+    ensures { outcome_of result ≡ quotient_verdict standard circuit.now values.now d size }
 {
-    let ready = refusals::ready_verdict(circuit, values, d);
-    if ready.number != 0 {
-        return ready;
-    }
-    let sized = refusals::length_verdict(size, circuit::counts::rows_of(circuit) + 1);
-    if sized.number != 0 {
-        return sized;
-    }
+    refusals::ready_verdict(circuit, values, d)?;
+    refusals::length_verdict(size, circuit::counts::rows_of(circuit) + 1)?;
     refusals::rows_verdict(circuit, values)
 }
 
@@ -40,13 +40,15 @@ fn fill_quotient(circuit: &[u32], values: &[u32], d: Blinders, out: &mut [u32])
 }
 
 // The quotient H' of the blinded polynomials, into rows + 1 words.
-pub fn quotient(circuit: &[u32], values: &[u32], d: Blinders, out: &mut [u32]) -> Outcome
-    ensures { QuotientCall standard circuit.now values.now d out.old out.new result }
+pub fn quotient(
+    circuit: &[u32],
+    values: &[u32],
+    d: Blinders,
+    out: &mut [u32],
+) -> Result<(), Refusal>
+    ensures { QuotientCall standard circuit.now values.now d out.old out.new (outcome_of result) }
 {
-    let verdict = quotient_verdict(circuit, values, d, out.len());
-    if verdict.number != 0 {
-        return verdict;
-    }
+    quotient_verdict(circuit, values, d, out.len())?;
     fill_quotient(circuit, values, d, out);
-    verdict
+    Ok(())
 }

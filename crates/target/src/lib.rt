@@ -2,7 +2,7 @@
 #![tactic(auto)]
 
 ghost use Rattle.std.specs.Prelude.{◌≡◌, length};
-ghost use Rattle.outcome.specs.Verdict.{Accepted};
+ghost use Rattle.outcome.specs.Verdict.{outcome_of, Accepted};
 ghost use Rattle.algebra.specs.Points.{row_points, target};
 ghost use Rattle.field.specs.Field.{p};
 ghost use Rattle.qap.specs.Refusals.{target_verdict};
@@ -10,14 +10,16 @@ ghost use Rattle.qap.specs.Calls.{TargetCall};
 ghost use Rattle.qap.specs.Setting.{standard};
 
 use circuit::limits::MOST_ROWS;
-use outcome::{Outcome, require, within};
+use outcome::{Refusal, require, within};
 use refusals::length_verdict;
 
 // m alone, then the length wanted.
-fn target_verdict(m: u32, size: usize) -> Outcome
-    ensures { result ≡ target_verdict standard m size }
+#[tactic(auto, using(outcome::proofs::Asked::asked), unfolding(qap::specs::Refusals::target_verdict))]
+fn target_verdict(m: u32, size: usize) -> Result<(), Refusal>
+    ensures { outcome_of result ≡ target_verdict standard m size }
 {
-    require(within(1, m, MOST_ROWS), 2, 0).and_then(length_verdict(size, m as usize + 1))
+    require(within(1, m, MOST_ROWS), Refusal::Limit(0))?;
+    length_verdict(size, m as usize + 1)
 }
 
 fn fill_target(m: u32, out: &mut [u32])
@@ -28,13 +30,10 @@ fn fill_target(m: u32, out: &mut [u32])
 }
 
 // The target of m rows, into m + 1 words.
-pub fn target(m: u32, out: &mut [u32]) -> Outcome
-    ensures { TargetCall standard m out.old out.new result }
+pub fn target(m: u32, out: &mut [u32]) -> Result<(), Refusal>
+    ensures { TargetCall standard m out.old out.new (outcome_of result) }
 {
-    let verdict = target_verdict(m, out.len());
-    if verdict.number != 0 {
-        return verdict;
-    }
+    target_verdict(m, out.len())?;
     fill_target(m, out);
-    verdict
+    Ok(())
 }
