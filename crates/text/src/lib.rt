@@ -5,20 +5,23 @@
 ghost use Rattle.std.specs.Prelude.{[], ◌∷◌, ◌++◌, ◌+◌, ◌≤◌, length};
 ghost use Rattle.text.specs.Text.{decimal, line, number_room, line_room, two_room, Appended};
 
+// The digits of n, highest first.
+#[tactic(auto, using(crate::proofs::TextLaws::sizes))]
 fn put_decimal(n: usize, text: &mut [u8], at: usize) -> usize
     requires { at + length (decimal n) ≤ length text.old }
     ensures { Appended text.old at (decimal n) (length (decimal n)) text.new result }
 {
-    if n < 10 {
-        text[at] = b'0' + n as u8;
-        return at + 1;
-    }
-    let last = put_decimal(n / 10, text, at);
+    let last = if n < 10 {
+        at
+    } else {
+        put_decimal(n / 10, text, at)
+    };
     text[last] = b'0' + (n % 10) as u8;
     last + 1
 }
 
 // A number and the byte behind it.
+#[tactic(auto, using(crate::proofs::TextLaws::digits_64))]
 fn put_number(n: usize, mark: u8, text: &mut [u8], at: usize) -> usize
     requires { at + number_room ≤ length text.old }
     ensures { Appended text.old at (decimal n ++ (mark ∷ [])) number_room text.new result }
@@ -32,17 +35,15 @@ pub fn put_line(words: &[u32], text: &mut [u8], at: usize) -> usize
     requires { at + line_room (length words.now) ≤ length text.old }
     ensures { Appended text.old at (line words.now) (line_room (length words.now)) text.new result }
 {
+    let [front @ .., last] = words else {
+        text[at] = b'\n';
+        return at + 1;
+    };
     let mut end = at;
-    let mut i = 0;
-    while i + 1 < words.len() {
-        end = put_number(words[i] as usize, b' ', text, end);
-        i += 1;
+    for word in front {
+        end = put_number(*word as usize, b' ', text, end);
     }
-    if i < words.len() {
-        return put_number(words[i] as usize, b'\n', text, end);
-    }
-    text[end] = b'\n';
-    end + 1
+    put_number(*last as usize, b'\n', text, end)
 }
 
 // The line of two numbers: a number and a place.

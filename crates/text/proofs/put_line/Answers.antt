@@ -1,43 +1,22 @@
--- A turn writes one number and its space; the last number has the newline behind it, and with no word left the newline is all.
-use mathlib.Core.List.{append_assoc}
-use native.Mathlib.Omega.{arith}
-use borrow.Author.Rules.{rules}
-use Rattle.text.proofs.TextLaws.{line-more, line-last, line-none, then_byte, nothing, still_kept}
+-- A turn writes one number and its space; the last number has the newline behind it.
+use Rattle.std.proofs.Common.{◌-◌, length, take, arith, length-take}
+use Rattle.std.proofs.lemmas.List.{take_all}
+use Rattle.text.proofs.TextLaws.{spaces-more, line-last, line-none, then_byte, then_more, widened, nothing}
 use Rattle.text.proofs.put_line.Goals as goal
 
-pub loop-i-preserved : goal.loop-i-preserved
-loop-i-preserved c =
-    let words = c.args.words.now in
-    let left = line-more words c.loop-i.i (omega arith) in
-    let number = c.put_number-end.ensures in (
-      search rules,
-      search rules,
-      search rules,
-      rw number.text (simp append_assoc (rw left at c.loop-i.invariant.3)),
-      search rules,
-      still_kept number.onward c.loop-i.invariant.5 number.rest,
-    )
+pub returns-in_default : goal.returns-in_default
+returns-in_default c = widened (then_byte (nothing c.args.text.now c.args.at) 10 (omega arith)) (line-none _ c.in_default.len_below) (omega arith)
 
-pub returns-then-i-words : goal.returns-then-i-words
-returns-then-i-words c =
-    let words = c.args.words.now in
-    let left = line-last words c.loop-i.i (omega arith) in
-    let number = c.put_number.ensures in
-    record {
-      text = rw number.text (rw left at c.loop-i.invariant.3);
-      rest = still_kept number.onward c.loop-i.invariant.5 number.rest;
-      onward = omega arith;
-      within = omega arith;
-    }
+pub loop-word-init : goal.loop-word-init
+loop-word-init c = nothing _ _
+
+pub loop-word-preserved : goal.loop-word-preserved
+loop-word-preserved c = widened (then_more c.loop-word.invariant c.put_number-end.ensures) (spaces-more _ _ c.loop-word-test.true) (omega arith)
 
 pub returns : goal.returns
 returns c =
-    let loop = c.loop-i in
     let words = c.args.words.now in
-    let done = then_byte (nothing loop.text loop.end) 10 (omega arith) in
-    record {
-      text = rw done.text (rw (line-none words loop.i (omega arith)) at loop.invariant.3);
-      rest = still_kept done.onward loop.invariant.5 done.rest;
-      onward = omega arith;
-      within = omega arith;
-    }
+    let m = length words - 1 in
+    widened (then_more c.loop-word.invariant c.put_number.ensures)
+    (rw (take_all c.loop-word.word-index (take m words) c.loop-word-test.false) (line-last words m (omega arith)))
+    (omega (arith, length-take m words))
