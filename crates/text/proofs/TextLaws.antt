@@ -1,15 +1,14 @@
 -- Laws of decimals: one digit more, how many digits, and that they are the right ones; then of text that grows.
 use mathlib.Core.Bool.{Bool, true, false}
-use mathlib.Core.List.{List, [], ◌∷◌, ◌++◌, append_assoc, append-nil}
+use mathlib.Core.List.{List, [], ◌∷◌, ◌++◌, append_assoc}
 use mathlib.Core.Path.{◌≡◌, refl, sym, ◌∙◌, ap}
 use mathlib.Core.Logic.{⊎_elim}
 use Prim.Native.Nat.{ℕ, zero, suc, ◌+◌, ◌-◌, ◌*◌, ◌/◌, ◌%◌, ◌^◌, ◌<◌, ◌≤◌}
 use native.Mathlib.Nat.{eq-or-lt_of_le}
-use native.Mathlib.Numerals.{add-one}
 use native.Mathlib.Omega.{arith}
 use lib.Dec.{ltb}
-use lib.Seq.{take-suc-set, drop-drop, drop-set-lt, get_or-append_seam, length-take-le}
-use lib.ListN.{length, get_or, take, drop, set, length-append, get_or-append, take-append-drop}
+use lib.Seq.{drop-drop, get_or-append_seam, length-take-le}
+use lib.ListN.{length, get_or, take, drop, length-append, get_or-append, take-append-drop}
 use borrow.Author.Tests.{ltb-true, ltb-false, lt-ltb, le-ltb}
 use Rattle.std.specs.Fmt.{decimal as printed}
 use Rattle.std.specs.List.{flat_map}
@@ -140,8 +139,10 @@ spaces_last [] last = refl
 spaces_last (w ∷ []) last = simp append_assoc
 spaces_last (w ∷ v ∷ ws) last = simp append_assoc (ap (λ x. decimal w ++ 32 ∷ x) (simp append_assoc at (spaces_last (v ∷ ws) last)))
 
-pub line-last : (ws : List ℕ) (i : ℕ) → i + 1 ≡ length ws → with_spaces (take i ws) ++ (decimal (get_or ws i 0) ++ (10 ∷ [])) ≡ line ws
-line-last ws i h = rw (spaces_last (take i ws) (get_or ws i 0), ← take_more ws i 0 (omega arith), take_all (i + 1) ws (omega arith))
+pub line-last : (ws : List ℕ) (i m : ℕ) → m + 1 ≡ length ws → length (take m ws) ≤ i →
+    with_spaces (take i (take m ws)) ++ (decimal (get_or ws m 0) ++ (10 ∷ [])) ≡ line ws
+line-last ws i m whole h =
+    rw (take_all i (take m ws) h, spaces_last (take m ws) (get_or ws m 0), ← take_more ws m 0 (omega arith), take_all (m + 1) ws (omega arith))
 
 pub line-none : (ws : List ℕ) → length ws < 1 → 10 ∷ [] ≡ line ws
 unfolding line
@@ -160,14 +161,9 @@ module _ {before text : List ℕ} {at room end : ℕ} {new : List ℕ} (w : Appe
   pub widened : {new2 : List ℕ} {room2 : ℕ} → new ≡ new2 → room ≤ room2 → Appended before at new2 room2 text end
   widened e h = record { text = rw (w.text, e); rest = w.rest; onward = w.onward; within = omega arith }
 
-  -- one byte more
-  pub then_byte : (b : ℕ) → end < length text → Appended before at (new ++ (b ∷ [])) (room + 1) (set text end b) (end + 1)
-  then_byte b h = record {
-    text = rw (add-one, take-suc-set text end b h, w.text, append_assoc);
-    rest = still_kept (omega arith) w.rest (record { same = drop-set-lt (end + 1) text end b (omega arith) });
-    onward = omega arith;
-    within = omega arith;
-  }
+  -- the text as its owner has it back
+  pub handed_back : {after : List ℕ} → after ≡ text → Appended before at new room after end
+  handed_back e = rw e w
 
   -- one call after another
   pub then_more : {after : List ℕ} {room2 end2 : ℕ} {new2 : List ℕ} →
@@ -178,10 +174,6 @@ module _ {before text : List ℕ} {at room end : ℕ} {new : List ℕ} (w : Appe
     onward = omega arith;
     within = omega arith;
   }
-
--- nothing written yet
-pub nothing : (before : List ℕ) (at : ℕ) → Appended before at [] 0 before at
-nothing before at = record { text = rw append-nil; rest = record { same = refl }; onward = omega arith; within = omega arith }
 
 -- the same text, and the same bytes kept behind it: the same bytes
 pub same_bytes : {before x y : List ℕ} {e e2 : ℕ} → e ≤ length x → e2 ≤ length y → take e x ≡ take e2 y →
