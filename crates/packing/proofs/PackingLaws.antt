@@ -1,10 +1,11 @@
 -- Packed words: lengths, single words, both round trips.
 use mathlib.Core.Path.{◌≡◌, refl, ap}
-use mathlib.Core.List.{List, [], ◌∷◌}
+use mathlib.Core.List.{List, [], ◌∷◌, ◌++◌}
 use Prim.Native.Nat.{ℕ, zero, suc, ◌+◌, ◌*◌, ◌/◌, ◌%◌, ◌≤◌, ◌<◌, ◌^◌}
-use native.Mathlib.Nat.{add-zero, div-div-eq-div-mul, zero-add}
+use native.Mathlib.Nat.{add-zero, zero-add}
 use native.Mathlib.Numerals.{add-one, add-two, add-three, add-four}
 use native.Mathlib.Omega.{arith}
+use Rattle.std.proofs.lemmas.Nat.{from_le_bytes-to_le_bytes_4, le_bytes_4}
 use lib.ListN.{length, drop, get_or}
 use lib.Seq.{drop-cons}
 use Rattle.packing.specs.Packing.{word_of, word_at, unpacked, packed}
@@ -49,9 +50,7 @@ pub word-unpacked : (b : List ℕ) (i : ℕ) → 4 * i + 4 ≤ length b → get_
 word-unpacked b i h = rw zero-add at (word_after b 0 i (omega arith))
 
 word_back : (w : ℕ) → w < 2 ^ 32 → word_of (w % 256) (w / 256 % 256) (w / 65536 % 256) (w / 16777216 % 256) ≡ w
-word_back w h =
-    let top : w / 16777216 % 256 ≡ w / 16777216 = omega arith in
-    rw top (omega (arith, div-div-eq-div-mul w 256 256, div-div-eq-div-mul w 65536 256))
+word_back w h = omega (arith, from_le_bytes-to_le_bytes_4 w h)
 
 -- words packed and unpacked again
 pub unpacked-packed : (w : List ℕ) → ((i : ℕ) → i < length w → get_or w i 0 < 2 ^ 32) → unpacked (packed w) ≡ w
@@ -63,14 +62,7 @@ bytes_back : (a b c d : ℕ) (rest : List ℕ) → a < 256 → b < 256 → c < 2
     packed (word_of a b c d ∷ rest) ≡ a ∷ b ∷ c ∷ d ∷ packed rest
 unfolding packed
 bytes_back a b c d rest ha hb hc hd =
-    let two : word_of a b c d / 256 ≡ b + 256 * c + 65536 * d = omega arith in
-    let three : word_of a b c d / 65536 ≡ c + 256 * d = omega arith in
-    let four : word_of a b c d / 16777216 ≡ d = omega arith in
-    let first : word_of a b c d % 256 ≡ a = omega arith in
-    let second : word_of a b c d / 256 % 256 ≡ b = rw two (omega arith) in
-    let third : word_of a b c d / 65536 % 256 ≡ c = rw three (omega arith) in
-    let fourth : word_of a b c d / 16777216 % 256 ≡ d = rw four (omega arith) in
-    cc
+    ap (λ x. x ++ packed rest) (le_bytes_4 (a ∷ b ∷ c ∷ d ∷ []) (word_of a b c d) refl (λ i. grind arith) (omega arith))
 
 -- bytes unpacked and packed again
 pub packed-unpacked : (b : List ℕ) (k : ℕ) → length b ≡ 4 * k → ((i : ℕ) → i < length b → get_or b i 0 < 256) → packed (unpacked b) ≡ b

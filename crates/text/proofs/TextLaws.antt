@@ -1,16 +1,19 @@
 -- Laws of decimals: one digit more, how many digits, and that they are the right ones; then of text that grows.
 use mathlib.Core.Bool.{Bool, true, false}
-use mathlib.Core.List.{List, [], ◌∷◌, ◌++◌, append_assoc, append-nil}
+use mathlib.Core.List.{List, [], ◌∷◌, ◌++◌, append_assoc}
 use mathlib.Core.Path.{◌≡◌, refl, sym, ◌∙◌, ap}
 use mathlib.Core.Logic.{⊎_elim}
 use Prim.Native.Nat.{ℕ, zero, suc, ◌+◌, ◌-◌, ◌*◌, ◌/◌, ◌%◌, ◌^◌, ◌<◌, ◌≤◌}
-use native.Mathlib.Nat.{pow-suc, eq-or-lt_of_le}
-use native.Mathlib.Numerals.{add-one}
+use native.Mathlib.Nat.{eq-or-lt_of_le}
 use native.Mathlib.Omega.{arith}
 use lib.Dec.{ltb}
-use lib.Seq.{take-suc-set, drop-cons, drop-drop, drop-set-lt, get_or-append_seam, length-take-le}
-use lib.ListN.{length, get_or, take, drop, set, length-append, get_or-append, take-append-drop, drop_of_length-le}
+use lib.Seq.{drop-drop, get_or-append_seam, length-take-le}
+use lib.ListN.{length, get_or, take, drop, length-append, get_or-append, take-append-drop}
 use borrow.Author.Tests.{ltb-true, ltb-false, lt-ltb, le-ltb}
+use Rattle.std.specs.Fmt.{decimal as printed}
+use Rattle.std.specs.List.{flat_map}
+use Rattle.std.proofs.lemmas.Fmt.{decimal_by_steps, length-decimal-le}
+use Rattle.std.proofs.lemmas.List.{take_more, take_all, flat_map_more}
 use Rattle.text.specs.Text.{digits, decimal, line, Kept, Appended}
 
 digits-one : (k n : ℕ) → n < 10 → digits k n ≡ (48 + n) ∷ []
@@ -58,18 +61,21 @@ unfolding decimal
 decimal-more zero h = absurd (omega arith)
 decimal-more (suc k) h = rw (digits_more k (suc k) h, enough (suc k / 10) (suc k / 10) (omega arith) k (omega arith))
 
--- a number below 10 ^ (k + 1) has at most k + 1 digits
-pub decimal-length : (n k : ℕ) → n < 10 ^ suc k → length (decimal n) ≤ suc k
-decimal-length = by_digits (λ n ds. (k : ℕ) → n < 10 ^ suc k → length ds ≤ suc k) (λ n h k l. omega arith) more
-  where
-    more : (n : ℕ) (ds : List ℕ) → 10 ≤ n → ((k : ℕ) → n / 10 < 10 ^ suc k → length ds ≤ suc k) →
-        (k : ℕ) → n < 10 ^ suc k → length (ds ++ ((48 + n % 10) ∷ [])) ≤ suc k
-    more n ds h next zero l = omega arith
-    more n ds h next (suc k) l = simp length-append (omega (arith, next k (omega (arith, pow-suc 10 (suc k)))))
+pub size_one : (n : ℕ) → n < 10 → length (decimal n) ≡ 1
+size_one n h = ap length (decimal-one n h)
+
+pub size_more : (n : ℕ) → 10 ≤ n → length (decimal n) ≡ length (decimal (n / 10)) + 1
+size_more n h = rw (decimal-more n h, length-append)
+
+pub ruleset sizes = (size_one, size_more)
+
+-- what the library prints of a number
+pub decimal-printed : (n : ℕ) → n < 2 ^ 64 → decimal n ≡ printed n
+decimal-printed = decimal_by_steps (λ n ds. decimal n ≡ ds) decimal-one (λ n ds h e. rw (decimal-more n h, e))
 
 -- a number of 64 bits
 pub digits_64 : (n : ℕ) → n < 2 ^ 64 → length (decimal n) ≤ 20
-digits_64 n h = decimal-length n 19 (omega arith)
+digits_64 n h = rw (decimal-printed n h) (length-decimal-le 20 n (omega arith) (omega arith) h)
 
 -- the number that digits stand for, behind a number a read so far
 pub read_back : ℕ → List ℕ → ℕ
@@ -119,19 +125,29 @@ pub example : line (2 ∷ 2013265918 ∷ 1 ∷ []) ≡ 50 ∷ 32 ∷ 50 ∷ 48 �
 unfolding line decimal digits
 example = refl
 
--- a line from word i on: a word with others behind it, the last word, none left
-module _ (ws : List ℕ) (i : ℕ) where
-  pub line-more : i + 1 < length ws → line (drop i ws) ≡ decimal (get_or ws i 0) ++ 32 ∷ line (drop (i + 1) ws)
-  unfolding line
-  line-more h = rw (add-one, drop-cons ws i 0 (omega arith), drop-cons ws (suc i) 0 (omega arith))
+-- words with a space behind each
+abbrev pub with_spaces : List ℕ → List ℕ
+with_spaces ws = flat_map (λ w. decimal w ++ (32 ∷ [])) ws
 
-  pub line-last : i + 1 ≡ length ws → line (drop i ws) ≡ decimal (get_or ws i 0) ++ (10 ∷ [])
-  unfolding line
-  line-last h = rw (drop-cons ws i 0 (omega arith), drop_of_length-le ws {i = suc i} (omega arith))
+pub spaces-more : (ws : List ℕ) (i : ℕ) → i < length ws → with_spaces (take i ws) ++ (decimal (get_or ws i 0) ++ (32 ∷ [])) ≡ with_spaces (take (i + 1) ws)
+spaces-more ws i h = rw (take_more ws i 0 h) (flat_map_more (λ w. decimal w ++ (32 ∷ [])) [] (take i ws) (get_or ws i 0))
 
-  pub line-none : length ws ≤ i → line (drop i ws) ≡ 10 ∷ []
-  unfolding line
-  line-none h = rw (drop_of_length-le ws h)
+-- a line is the words but the last with spaces, then the last; without a word the newline alone
+spaces_last : (front : List ℕ) (last : ℕ) → with_spaces front ++ (decimal last ++ (10 ∷ [])) ≡ line (front ++ (last ∷ []))
+unfolding line
+spaces_last [] last = refl
+spaces_last (w ∷ []) last = simp append_assoc
+spaces_last (w ∷ v ∷ ws) last = simp append_assoc (ap (λ x. decimal w ++ 32 ∷ x) (simp append_assoc at (spaces_last (v ∷ ws) last)))
+
+pub line-last : (ws : List ℕ) (i m : ℕ) → m + 1 ≡ length ws → length (take m ws) ≤ i →
+    with_spaces (take i (take m ws)) ++ (decimal (get_or ws m 0) ++ (10 ∷ [])) ≡ line ws
+line-last ws i m whole h =
+    rw (take_all i (take m ws) h, spaces_last (take m ws) (get_or ws m 0), ← take_more ws m 0 (omega arith), take_all (m + 1) ws (omega arith))
+
+pub line-none : (ws : List ℕ) → length ws < 1 → 10 ∷ [] ≡ line ws
+unfolding line
+line-none [] h = refl
+line-none (w ∷ ws) h = absurd (omega arith)
 
 -- what is kept from `end` on, and then from a later end on, is kept from there
 pub still_kept : {before text after : List ℕ} {end end2 : ℕ} → end ≤ end2 → Kept before text end → Kept text after end2 → Kept before after end2
@@ -141,14 +157,13 @@ still_kept {before} {text} {after} {end} {end2} h first second =
     record { same = second.same ∙ later text ∙ rw first.same (sym (later before)) }
 
 module _ {before text : List ℕ} {at room end : ℕ} {new : List ℕ} (w : Appended before at new room text end) where
-  -- one byte more
-  pub then_byte : (b : ℕ) → end < length text → Appended before at (new ++ (b ∷ [])) (room + 1) (set text end b) (end + 1)
-  then_byte b h = record {
-    text = rw (add-one, take-suc-set text end b h, w.text, append_assoc);
-    rest = still_kept (omega arith) w.rest (record { same = drop-set-lt (end + 1) text end b (omega arith) });
-    onward = omega arith;
-    within = omega arith;
-  }
+  -- the same bytes in other words, and more room
+  pub widened : {new2 : List ℕ} {room2 : ℕ} → new ≡ new2 → room ≤ room2 → Appended before at new2 room2 text end
+  widened e h = record { text = rw (w.text, e); rest = w.rest; onward = w.onward; within = omega arith }
+
+  -- the text as its owner has it back
+  pub handed_back : {after : List ℕ} → after ≡ text → Appended before at new room after end
+  handed_back e = rw e w
 
   -- one call after another
   pub then_more : {after : List ℕ} {room2 end2 : ℕ} {new2 : List ℕ} →
@@ -159,10 +174,6 @@ module _ {before text : List ℕ} {at room end : ℕ} {new : List ℕ} (w : Appe
     onward = omega arith;
     within = omega arith;
   }
-
--- nothing written yet
-pub nothing : (before : List ℕ) (at : ℕ) → Appended before at [] 0 before at
-nothing before at = record { text = rw append-nil; rest = record { same = refl }; onward = omega arith; within = omega arith }
 
 -- the same text, and the same bytes kept behind it: the same bytes
 pub same_bytes : {before x y : List ℕ} {e e2 : ℕ} → e ≤ length x → e2 ≤ length y → take e x ≡ take e2 y →

@@ -1,38 +1,27 @@
-use mathlib.Core.Path.{◌≡◌, ◌∙◌}
-use mathlib.Core.List.{List, [], ◌∷◌, ◌++◌, append-nil, append_assoc}
-use Prim.Native.Nat.{ℕ, ◌+◌, ◌*◌, ◌≤◌, ◌<◌}
-use native.Mathlib.Numerals.{add-one}
-use native.Mathlib.Omega.{arith}
-use borrow.Author.Rules.{rules}
-use lib.ListN.{length, take, drop, get_or, length-append, drop_of_length-le}
-use lib.Seq.{drop-cons, length-take-le, sets, sets-eq, take_all, take_at}
+-- A turn writes the four bytes of one word behind those before.
+use Rattle.std.proofs.Common.{◌≡◌, ◌∙◌, ℕ, ◌+◌, ◌*◌, ◌<◌, ◌≤◌, List, ◌++◌, length, get_or, take, drop, arith, add-one, append_assoc, append-nil, drop-cons}
+use Rattle.std.proofs.lemmas.List.{take_all}
+use Rattle.std.proofs.lemmas.Slice.{take-put_mid}
+use Rattle.std.proofs.Math.ListN.{drop_of_length-le}
+use Rattle.std.specs.Int.{w32, to_le_bytes}
+use borrow.Rule.Slice.PartMut.{put_mid}
 use Rattle.packing.specs.Packing.{packed}
 use Rattle.packing.proofs.pack.Goals as goal
 
-run-front : (l run : List ℕ) (at : ℕ) → at + length run ≤ length l → take (at + length run) (sets l at run) ≡ take at l ++ run
-run-front l run at h =
-    rw (sets-eq run l at h)
-    (take_at (take at l ++ run) (drop (at + length run) l) (at + length run) (rw (length-append, length-take-le at l (omega arith))))
-
-step : (words bytes : List ℕ) (i : ℕ) → i < length words → 4 * i + 4 ≤ length bytes →
-    take (4 * (i + 1)) (sets bytes (4 * i) (packed (get_or words i 0 ∷ []))) ++ packed (drop (i + 1) words) ≡
-    take (4 * i) bytes ++ packed (drop i words)
+step : (words bytes four : List ℕ) (i k : ℕ) → i < length words → 4 * i + 4 ≤ length bytes → four ≡ to_le_bytes w32 (get_or words i 0) →
+    take (4 * (i + 1)) (put_mid (4 * i) k bytes four) ++ packed (drop (i + 1) words) ≡ take (4 * i) bytes ++ packed (drop i words)
 unfolding packed
-step words bytes i hw hb =
-    let next : 4 * (i + 1) ≡ 4 * i + 4 = omega arith in
-    rw (next, run-front bytes (packed (get_or words i 0 ∷ [])) (4 * i) hb, append_assoc, add-one i, drop-cons words i 0 hw)
-
-end : (words bytes : List ℕ) (i : ℕ) → length words ≤ i → length bytes ≤ 4 * i → bytes ≡ take (4 * i) bytes ++ packed (drop i words)
-unfolding packed
-end words bytes i hw hb = rw (drop_of_length-le words hw, append-nil, take_all (4 * i) bytes hb)
+step words bytes four i k h fits is =
+    let front = take-put_mid (4 * i) k bytes (to_le_bytes w32 (get_or words i 0)) (4 * (i + 1)) (omega arith) (omega arith) in
+    rw (is, front, append_assoc, add-one, drop-cons words i 0 h)
 
 pub loop-i-preserved : goal.loop-i-preserved
 loop-i-preserved c =
-    let now = c.loop-i in (
-      search rules,
-      search rules,
-      rw c.put_word.ensures (step _ now.bytes now.i (omega arith) (omega arith)) ∙ now.invariant.2,
-    )
+    step _ c.loop-i.bytes _ c.loop-i.i _ (omega arith) (omega arith) (c.copy_from_slice.ensures.after ∙ c.to_le_bytes.ensures) ∙ c.loop-i.invariant
 
 pub returns : goal.returns
-returns c = let now = c.loop-i in end _ now.bytes now.i (omega arith) (omega arith) ∙ now.invariant.2
+unfolding packed
+returns c =
+    let words = c.args.words.now in
+    let none : length words ≤ c.loop-i.i = omega arith in
+    rw (drop_of_length-le words none, append-nil, take_all (4 * c.loop-i.i) c.loop-i.bytes (omega arith)) at c.loop-i.invariant

@@ -1,14 +1,7 @@
--- Invariant: the words before i, with those that the bytes left hold, are the words of all bytes.
-use mathlib.Core.Path.{◌≡◌}
-use mathlib.Core.List.{◌++◌}
-use Prim.Native.Nat.{◌*◌, ◌-◌, ◌≤◌}
-use lib.ListN.{length, take, drop}
-use Rattle.packing.specs.Packing.{unpacked}
+-- Invariant: the words before i are those at their places.
+use Rattle.std.proofs.Common.{◌≡◌, ℕ, ◌*◌, ◌<◌, get_or}
+use Rattle.packing.specs.Packing.{word_at}
 use Rattle.packing.proofs.unpack.Given as goal
 
 abbrev pub invariant-loop-i : goal.invariant-loop-i
-invariant-loop-i l =
-    (l.i ≤ length l.initial.words) × (length l.words ≡ length l.initial.words) × (take l.i l.words ++ unpacked (drop (4 * l.i) l.bytes) ≡ unpacked l.bytes)
-
-abbrev pub decreases-loop-i : goal.decreases-loop-i
-decreases-loop-i l = length l.initial.words - l.i
+invariant-loop-i l = (k : ℕ) → k < l.i → get_or l.words k 0 ≡ word_at l.bytes (4 * k)

@@ -1,11 +1,9 @@
 -- One number behind the other.
-use mathlib.Core.List.{append_assoc}
+use Rattle.std.proofs.Common.{arith, append_assoc, rules}
 use Rattle.text.specs.Text.{line}
-use Rattle.text.proofs.TextLaws.{then_more}
+use Rattle.text.proofs.TextLaws.{then_more, widened, handed_back}
 use Rattle.text.proofs.put_two.Goals as goal
 
 pub returns : goal.returns
 unfolding line
-returns c =
-    let done = then_more c.put_number-end.ensures c.put_number.ensures in
-    record { text = rw done.text (simp append_assoc); rest = done.rest; onward = done.onward; within = done.within }
+returns c = handed_back (widened (then_more c.put_number.ensures.text c.put_number-2.ensures.text) (simp append_assoc) (omega arith)) (search rules)
