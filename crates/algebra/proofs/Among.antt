@@ -1,5 +1,5 @@
 -- A test for being one of the points: it passes exactly at the points.
-use mathlib.Core.Bool.{Bool, true, false, ◌||◌}
+use mathlib.Core.Bool.{Bool, true, false, ◌||◌, or-true}
 use mathlib.Core.Path.{◌≡◌, refl}
 use mathlib.Core.List.{List, [], ◌∷◌}
 use Prim.Native.Nat.{ℕ, zero, suc, ◌<◌}
@@ -9,15 +9,11 @@ use lib.Dec.{eqb}
 use lib.ListN.{length, get_or}
 use Rattle.algebra.specs.Points.{among}
 
-either : (a : Bool) {b : Bool} → b ≡ true → a || b ≡ true
-either true h = refl
-either false h = h
-
 pub among_at : (xs : List ℕ) (i : ℕ) → i < length xs → among (get_or xs i 0) xs ≡ true
 unfolding among
 among_at [] i l = absurd (omega arith)
 among_at (x ∷ xs) zero l = rw (eq-eqb x x refl)
-among_at (x ∷ xs) (suc i) l = either (eqb (get_or xs i 0) x) (among_at xs i (omega arith))
+among_at (x ∷ xs) (suc i) l = rw (among_at xs i (omega arith), or-true)
 
 pub among_some : (s : ℕ) (xs : List ℕ) → among s xs ≡ true → (i : ℕ) × (i < length xs) × (s ≡ get_or xs i 0)
 unfolding among

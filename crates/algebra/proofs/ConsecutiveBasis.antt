@@ -29,10 +29,20 @@ target-append p (x ∷ xs) ys s =
     ≈_trans (target-value p x (xs ++ ys) s)
     (by (≈-plus (≈-times k (target-append p xs ys s)) (≈-times (value (target p ys) s) (≈_sym (target-value p x xs s)))) (omega arith))
 
-pub consecutive-last : (x m : ℕ) → consecutive x (suc m) ≡ consecutive x m ++ ((x + m) ∷ [])
+consecutive-last : (x m : ℕ) → consecutive x (suc m) ≡ consecutive x m ++ ((x + m) ∷ [])
 unfolding consecutive
 consecutive-last x zero = rw (add-zero x)
 consecutive-last x (suc m) = ap (λ (l : List ℕ). x ∷ l) (consecutive-last (suc x) m ∙ rw (add-suc x m, suc-add x m))
+
+-- one point more at the end
+pub value_last : (p x n s : ℕ) → value (target p (consecutive x (suc n))) s ≈⟨ p ⟩ (negative p (x + n) + s) * value (target p (consecutive x n)) s
+value_last p x n s =
+    let y = x + n in
+    let k = negative p y + s in
+    let one : k * value (target p []) s ≡ k = rw (value_none p s) (omega arith) in
+    let v = value (target p (consecutive x n)) s in
+    rw (consecutive-last x n)
+    (≈_trans (target-append p (consecutive x n) (y ∷ []) s) (by (≈-times v (target-value p y [] s)) (omega (arith, ap (λ (t : ℕ). v * t) one))))
 
 pub without-consecutive : (x m i : ℕ) → i < m → without i (consecutive x m) ≡ consecutive x i ++ consecutive (suc (x + i)) (m - suc i)
 unfolding consecutive without
@@ -61,13 +71,8 @@ module _ {p : ℕ} (pos : 0 < p) where
   unfolding consecutive descent
   value_before s zero = ≈-eq p (value_none p s)
   value_before s (suc n) =
-      let y = suc s + n in
       let v = value (target p (consecutive (suc s) n)) s in
-      let one : value (target p (y ∷ [])) s ≈⟨ p ⟩ negative p y + s =
-      by (target-value p y [] s) (omega (arith, ap (λ (t : ℕ). (negative p y + s) * t) (value_none p s))) in
-      rw (consecutive-last (suc s) n)
-      (≈_trans (target-append p (consecutive (suc s) n) (y ∷ []) s)
-      (by (≈-plus (≈-plus (≈-times v one) (≈-times v (≈-negative pos s))) (≈-times (negative p (suc n)) (value_before s n))) (omega arith)))
+      by (≈-plus (≈-plus (value_last p (suc s) n s) (≈-times v (≈-negative pos s))) (≈-times (negative p (suc n)) (value_before s n))) (omega arith)
 
   pub apartness-consecutive : (x m i : ℕ) → i < m → apartness p (consecutive x m) i ≈⟨ p ⟩ ascent i * descent p (m - suc i)
   apartness-consecutive x m i l =

@@ -30,6 +30,10 @@ cross p s [] u = 0
 cross p s (x ∷ xs) u = u 0 * value (target p xs) s + (negative p x + s) * cross p s xs (λ i. u (suc i))
 
 -- points apart from each other have differences that are not 0
+apart_first : {p x : ℕ} {xs : List ℕ} → Prime p → Distinct p (x ∷ xs) → (i : ℕ) → i < length xs → negative p x + get_or xs i 0 ≈⟨ p ⟩ 0 → ⊥
+apart_first {x = x} prime d i l e =
+    d.apart 0 (suc i) (omega arith) (omega arith) (by (≈-plus (≈-negative (positive prime) x) (≈_sym e)) (omega arith))
+
 pub apart_nonzero : {p : ℕ} → Prime p → (xs : List ℕ) → Distinct p xs → (i : ℕ) → i < length xs → apartness p xs i ≈⟨ p ⟩ 0 → ⊥
 unfolding without
 apart_nonzero prime [] d i l h = omega arith
@@ -37,7 +41,7 @@ apart_nonzero prime (x ∷ xs) d zero l h = first-apart prime x xs d h
 apart_nonzero {p} prime (x ∷ xs) d (suc i) l h =
     let y = get_or xs i 0 in
     ⊎_elim
-    (λ e. d.apart 0 (suc i) (omega arith) (omega arith) (by (≈-plus (≈-negative (positive prime) x) (≈_sym e)) (omega arith)))
+    (apart_first prime d i (omega arith))
     (apart_nonzero prime xs (distinct-rest d) i (omega arith))
     (no_zero_divisors prime (negative p x + y) (apartness p xs i) (≈_trans (≈_sym (target-value p x (without i xs) y)) h))
 
@@ -68,10 +72,7 @@ module _ {p : ℕ} (prime : Prime p) (s : ℕ) where
   unfolding without
   rest-takes x u xs f i v d l h takes =
       let y = get_or xs i 0 in
-      let k = negative p x + y in
-      let nonzero : k ≈⟨ p ⟩ 0 → ⊥ =
-      λ e. d.apart 0 (suc i) (omega arith) (omega arith) (by (≈-plus (≈-negative (positive prime) x) (≈_sym e)) (omega arith)) in
-      cancel prime k nonzero
+      cancel prime (negative p x + y) (apart_first prime d i l)
       (by
       (≈-plus (≈-plus (≈_sym (≈-times v (target-value p x (without i xs) y))) takes)
       (≈-plus (rest-value x u xs f h y) (≈-times u ((target-zero (positive prime) xs).zero_at i l))))

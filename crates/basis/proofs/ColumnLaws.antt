@@ -5,7 +5,9 @@ use mathlib.Core.Path.{◌≡◌, refl, sym, ◌∙◌, ap}
 use mathlib.Core.List.{List}
 use Prim.Native.Nat.{ℕ, zero, suc, ◌+◌, ◌*◌, ◌%◌, ◌<◌, ◌≤◌}
 use native.Mathlib.Decide.{dec_lt}
+use native.Mathlib.Numerals.{add-one}
 use native.Mathlib.Omega.{arith}
+use borrow.Author.Count.{below_more}
 use lib.ListN.{length, get_or}
 use Rattle.algebra.specs.Congruence.{◌≈⟨◌⟩◌}
 use Rattle.algebra.specs.Prime.{Prime}
@@ -26,15 +28,6 @@ use Rattle.slices.proofs.Rooms.{length-zeros}
 use Rattle.poly.proofs.ScaledLaws.{length-scaled, words-scaled, scaled-sum}
 use Rattle.basis.specs.Column.{AddedFirst}
 
--- nothing is added yet
-pub added_none : {p : ℕ} (xs : List ℕ) (y : ℕ → ℕ) {f : List ℕ} → Words p f → AddedFirst p xs y 0 f f
-added_none {p} xs y {f} w = record {
-  size = refl;
-  words = w;
-  first = λ k l. absurd (omega arith);
-  after = λ k h l. ≈_refl p (value f (get_or xs k 0));
-}
-
 module _ {p : ℕ} {xs : List ℕ} {y : ℕ → ℕ} {n : ℕ} {old f : List ℕ} (a : AddedFirst p xs y n old f) (inside : n < length xs) where
   -- y n more at point number n, and nothing at the others
   added_at : {g : List ℕ} → length g ≡ length f → Words p g → value g (get_or xs n 0) ≈⟨ p ⟩ value f (get_or xs n 0) + y n →
@@ -42,15 +35,13 @@ module _ {p : ℕ} {xs : List ℕ} {y : ℕ → ℕ} {n : ℕ} {old f : List ℕ
   added_at {g} size words here other = record {
     size = size ∙ a.size;
     words = words;
-    first = first;
+    first =
+        rw (← add-one n)
+        (below_more (λ k. value g (get_or xs k 0) ≈⟨ p ⟩ value old (get_or xs k 0) + y k) n
+        (λ k l. ≈_trans (other k (omega arith) (λ e. omega arith)) (a.first k l))
+        (≈_trans here (≈-plus (a.after n (omega arith) inside) (≈_refl p (y n)))));
     after = λ k h l. ≈_trans (other k l (λ e. omega arith)) (a.after k (omega arith) l);
   }
-    where
-      first : (k : ℕ) → k < suc n → value g (get_or xs k 0) ≈⟨ p ⟩ value old (get_or xs k 0) + y k
-      first k l = elim (dec_lt k n) [
-        | yes before ↦ ≈_trans (other k (omega arith) (λ e. omega arith)) (a.first k before)
-        | no not ↦ (let same : k ≡ n = omega arith in rw same (≈_trans here (≈-plus (a.after n (omega arith) inside) (≈_refl p (y n)))))
-      ]
 
   -- a value 0 adds nothing
   pub added-zero : y n ≡ 0 → AddedFirst p xs y (suc n) old f

@@ -4,16 +4,16 @@ use mathlib.Core.Path.{◌≡◌, refl, ◌∙◌, ap}
 use mathlib.Core.List.{List, [], ◌∷◌}
 use Prim.Native.Nat.{ℕ, zero, suc, ◌+◌, ◌*◌, ◌-◌, ◌%◌, ◌<◌}
 use native.Mathlib.Nat.{mod-lt, zero-add, add-zero, add-suc, suc-add}
+use native.Mathlib.Numerals.{one-add}
 use native.Mathlib.Omega.{arith}
 use lib.ListN.{length, get_or}
 use Rattle.algebra.specs.Congruence.{◌≈⟨◌⟩◌, negative}
-use Rattle.algebra.specs.Polynomial.{value}
-use Rattle.algebra.specs.Points.{consecutive, row_points, target}
+use Rattle.algebra.specs.Points.{consecutive, row_points}
 use Rattle.algebra.specs.Basis.{apartness, others, BasisWeights, BasisValues}
 use Rattle.algebra.proofs.Congruence.{≈-eq, ≈_sym, ≈_trans, ≈-plus, ≈-times, ≈-product, ≈-reduced, by}
 use Rattle.algebra.proofs.Target.{target-value}
 use Rattle.algebra.proofs.Consecutive.{length-row_points}
-use Rattle.algebra.proofs.ConsecutiveBasis.{value_none, target-append, consecutive-last, without-consecutive}
+use Rattle.algebra.proofs.ConsecutiveBasis.{value_none, value_last, target-append, without-consecutive}
 use Rattle.basis.specs.BasisAt.{BasisAt}
 use Rattle.basis.specs.Passes.{mapped, points_before, points_from, times_before, times_after}
 
@@ -52,14 +52,7 @@ module _ (p s : ℕ) where
 
   pub next_before : (i : ℕ) → points_before p s (suc i) ≈⟨ p ⟩ (negative p (suc i) + s) * points_before p s i
   unfolding points_before
-  next_before i =
-      let y = 1 + i in
-      let v = value (target p (row_points i)) s in
-      let k = negative p y + s in
-      let last : value (target p (y ∷ [])) s ≈⟨ p ⟩ k =
-      by (target-value p y [] s) (omega (arith, ap (λ (t : ℕ). k * t) (value_none p s))) in
-      rw (consecutive-last 1 i)
-      (≈_trans (target-append p (row_points i) (y ∷ []) s) (by (≈-times v last) (omega arith)))
+  next_before i = rw one-add at (value_last p 1 i s)
 
   pub next_from : (m i : ℕ) → i < m → points_from p m s i ≈⟨ p ⟩ (negative p (suc i) + s) * points_from p m s (suc i)
   unfolding points_from consecutive

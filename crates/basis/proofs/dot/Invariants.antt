@@ -1,13 +1,10 @@
 -- Invariant: sum is the sum of the first i products.
 use mathlib.Core.Path.{◌≡◌}
-use Prim.Native.Nat.{◌*◌, ◌-◌, ◌≤◌, ◌%◌}
-use lib.ListN.{length, get_or}
+use Prim.Native.Nat.{◌*◌, ◌%◌}
+use lib.ListN.{get_or}
 use Rattle.algebra.specs.Combination.{total}
 use Rattle.field.specs.Field.{p}
 use Rattle.basis.proofs.dot.Given as goal
 
 abbrev pub invariant-loop-i : goal.invariant-loop-i
-invariant-loop-i l = (l.i ≤ length l.y) × (l.sum ≡ total (λ j. get_or l.y j 0 * get_or l.b j 0) l.i % p)
-
-abbrev pub decreases-loop-i : goal.decreases-loop-i
-decreases-loop-i l = length l.y - l.i
+invariant-loop-i l = l.sum ≡ total (λ j. get_or l.y j 0 * get_or l.b j 0) l.i % p

@@ -2,7 +2,7 @@
 -- i on.
 use mathlib.Core.Path.{◌≡◌}
 use mathlib.Core.List.{◌++◌}
-use Prim.Native.Nat.{suc, ◌*◌, ◌%◌, ◌≤◌}
+use Prim.Native.Nat.{suc, ◌*◌, ◌%◌}
 use lib.ListN.{length, take, drop}
 use Rattle.field.specs.Field.{p}
 use Rattle.basis.specs.Passes.{mapped, points_from}
@@ -10,8 +10,5 @@ use Rattle.basis.proofs.times_after.Given as goal
 
 abbrev pub invariant-loop-i : goal.invariant-loop-i
 invariant-loop-i l =
-    (l.i ≤ length l.initial.out) × (length l.out ≡ length l.initial.out) × (l.after ≡ points_from p (length l.initial.out) l.s l.i % p) ×
+    (l.after ≡ points_from p (length l.initial.out) l.s l.i % p) ×
     (l.out ≡ take l.i l.initial.out ++ mapped (λ j a. a * points_from p (length l.initial.out) l.s (suc j) % p) l.i (drop l.i l.initial.out))
-
-abbrev pub decreases-loop-i : goal.decreases-loop-i
-decreases-loop-i l = l.i

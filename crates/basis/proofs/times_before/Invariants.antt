@@ -2,16 +2,13 @@
 -- before number i.
 use mathlib.Core.Path.{◌≡◌}
 use mathlib.Core.List.{◌++◌}
-use Prim.Native.Nat.{◌*◌, ◌-◌, ◌%◌, ◌≤◌}
-use lib.ListN.{length, take, drop}
+use Prim.Native.Nat.{◌*◌, ◌%◌}
+use lib.ListN.{take, drop}
 use Rattle.field.specs.Field.{p}
 use Rattle.basis.specs.Passes.{mapped, points_before, times_before}
 use Rattle.basis.proofs.times_before.Given as goal
 
 abbrev pub invariant-loop-i : goal.invariant-loop-i
 invariant-loop-i l =
-    (l.i ≤ length l.initial.out) × (length l.out ≡ length l.initial.out) × (l.before ≡ points_before p l.s l.i % p) ×
+    (l.before ≡ points_before p l.s l.i % p) ×
     (take l.i l.out ++ mapped (λ j a. a * points_before p l.s j % p) l.i (drop l.i l.out) ≡ times_before p l.s l.initial.out)
-
-abbrev pub decreases-loop-i : goal.decreases-loop-i
-decreases-loop-i l = length l.initial.out - l.i

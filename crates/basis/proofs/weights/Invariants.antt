@@ -1,6 +1,5 @@
 -- Invariant: the words before i are the weights of their points, and weight is that of point number i, as long as there is one.
-use mathlib.Core.Path.{◌≡◌}
-use Prim.Native.Nat.{ℕ, suc, ◌*◌, ◌-◌, ◌≤◌, ◌<◌}
+use Prim.Native.Nat.{ℕ, suc, ◌*◌, ◌-◌, ◌<◌}
 use lib.ListN.{length, get_or}
 use Rattle.algebra.specs.Congruence.{Inverse}
 use Rattle.algebra.specs.Basis.{descent}
@@ -14,9 +13,5 @@ WeightAt m i w = Inverse p (ascent i * descent p (m - suc i)) w
 
 abbrev pub invariant-loop-i : goal.invariant-loop-i
 invariant-loop-i l =
-    (l.i ≤ length l.initial.out) × (length l.out ≡ length l.initial.out) ×
     (l.i < length l.initial.out → WeightAt (length l.initial.out) l.i l.weight) ×
     ((j : ℕ) → j < l.i → WeightAt (length l.initial.out) j (get_or l.out j 0))
-
-abbrev pub decreases-loop-i : goal.decreases-loop-i
-decreases-loop-i l = length l.initial.out - l.i
