@@ -14,7 +14,6 @@ use outcome::{Refusal, require, within};
 use refusals::length_verdict;
 
 // m alone, then the length wanted.
-#[tactic(auto, using(outcome::proofs::Asked::asked), unfolding(qap::specs::Refusals::target_verdict))]
 fn target_verdict(m: u32, size: usize) -> Result<(), Refusal>
     ensures { outcome_of result ≡ target_verdict standard m size }
 {

@@ -1,14 +1,14 @@
 -- Refused by the verdict, or filled.
-use Rattle.outcome.proofs.Verdict.{is_accepted}
+use native.Mathlib.Omega.{arith}
+use Rattle.outcome.proofs.Asked.{asked}
 use Rattle.qap.proofs.Filling.{filled-refused, filled-done}
 use Rattle.target.proofs.target.Goals as goal
 
-pub returns-then-verdict-ne0 : goal.returns-then-verdict-ne0
-returns-then-verdict-ne0 c = filled-refused _ c.target_verdict-verdict.ensures _ c.if-verdict-ne0.true
+pub returns-in_err-target_verdict : goal.returns-in_err-target_verdict
+returns-in_err-target_verdict c = filled-refused _ _ (grind (arith, asked)) (grind (arith, asked))
 
 pub fill_target-requires : goal.fill_target-requires
-fill_target-requires c = is_accepted c.target_verdict-verdict.ensures c.if-verdict-ne0.false
+fill_target-requires c = record { is_zero = grind (arith, asked) }
 
 pub returns : goal.returns
-returns c =
-    filled-done _ c.target_verdict-verdict.ensures _ _ c.if-verdict-ne0.false (λ _. c.fill_target.ensures)
+returns c = filled-done _ _ _ (c.in_ok-target_verdict.ensures tt) c.fill_target.ensures
