@@ -2,9 +2,9 @@
 use mathlib.Core.Path.{◌≡◌, refl, sym, ap}
 use mathlib.Core.List.{List, [], ◌∷◌, ◌++◌, append-nil}
 use Prim.Native.Nat.{ℕ, zero, suc, ◌+◌, ◌*◌, ◌-◌, ◌<◌, ◌%◌}
+use native.Mathlib.Numerals.{add-one}
 use native.Mathlib.Omega.{arith}
-use borrow.Author.Rules.{rules}
-use lib.ListN.{length, take, drop, get_or, length-set, drop_of_length-le}
+use lib.ListN.{length, take, drop, get_or, drop_of_length-le}
 use lib.Seq.{drop-cons, drop-length, take-length}
 use Rattle.algebra.specs.Polynomial.{value, divided}
 use Rattle.algebra.proofs.Congruence.{≈_refl, ≈-reduced}
@@ -33,13 +33,11 @@ step column z k x j hz hc e n =
 pub loop-i-init : goal.loop-i-init
 unfolding value
 loop-i-init c =
-    let args = c.args in
-    let column = args.column.now in (
-      search rules,
-      search rules,
-      rw (drop_of_length-le args.z.now {i = suc (length column)} (omega arith)),
-      sym (rw (drop-length column, scaled-nil p args.k _, append-nil (take (length column) column), take-length column)),
-    )
+    let column = c.args.column.now in
+    record {
+      running = rw (drop_of_length-le c.args.z.now {i = suc (length column)} (omega arith));
+      done = sym (rw (drop-length column, scaled-nil p c.args.k _, append-nil (take (length column) column), take-length column));
+    }
 
 pub loop-i-preserved : goal.loop-i-preserved
 loop-i-preserved c =
@@ -50,21 +48,19 @@ loop-i-preserved c =
     let j = now.i - 1 in
     let i-is : now.i ≡ suc j = omega arith in
     let done = scaled p args.k (drop (suc j) (divided args.x z)) (drop (suc j) column) in
-    let so_far : now.column ≡ take (suc j) column ++ done = rw i-is at now.invariant.3 in
+    let so_far : now.column ≡ take (suc j) column ++ done = rw i-is at now.invariant.done in
     let here : j < length column = omega arith in
     let word : c.add_scaled-word.result ≡ value (drop (suc j) z) args.x % p =
-    rw i-is at (running p z args.x now.i (omega arith) now.invariant.2 c.add_scaled-word.ensures) in
+    running p z args.x (suc j) (omega arith) (rw i-is at now.invariant.running) (rw add-one at c.add_scaled-word.ensures) in
     let written : c.add_scaled.result ≡ (get_or column j 0 + args.k * c.add_scaled-word.result) % p =
-    rw (so_far, back_get column j here done) at c.add_scaled.ensures in (
-      search rules,
-      simp length-set (search rules),
-      word,
-      rw (so_far, back-set column j here done _)
-          (ap (λ (r : List ℕ). take j column ++ r) (step column z args.k args.x j (omega arith) here word written)),
-    )
+    rw (so_far, back_get column j here done) at c.add_scaled.ensures in
+    record {
+      running = word;
+      done = rw (so_far, back-set column j here done _)
+          (ap (λ (r : List ℕ). take j column ++ r) (step column z args.k args.x j (omega arith) here word written));
+    }
 
 pub returns : goal.returns
 returns c =
-    let now = c.loop-i in
-    let none : now.i ≡ 0 = omega arith in
-    rw none at now.invariant.3
+    let none : c.loop-i.i ≡ 0 = omega arith in
+    rw none at c.loop-i.invariant.done

@@ -1,11 +1,10 @@
 -- A turn adds −x times the next word to the word at i; the last word has none after it, and stays.
-use mathlib.Core.Path.{◌≡◌, refl, sym, ◌∙◌, ap}
+use mathlib.Core.Path.{◌≡◌, refl, ◌∙◌, ap}
 use mathlib.Core.List.{List, [], ◌∷◌, ◌++◌}
 use Prim.Native.Nat.{ℕ, suc, ◌+◌, ◌*◌, ◌≤◌, ◌<◌, ◌%◌}
 use native.Mathlib.Numerals.{add-one}
 use native.Mathlib.Omega.{arith}
-use borrow.Author.Rules.{rules}
-use lib.ListN.{length, take, drop, set, get_or, length-set, length-drop, take-append-drop}
+use lib.ListN.{length, take, drop, set, get_or, length-drop, take-append-drop}
 use lib.Seq.{drop-cons}
 use Rattle.algebra.specs.Congruence.{◌≈⟨◌⟩◌, negative}
 use Rattle.algebra.proofs.Congruence.{≈_refl}
@@ -36,15 +35,10 @@ pub loop-i-preserved : goal.loop-i-preserved
 loop-i-preserved c =
     let now = c.loop-i in
     let x = c.args.x in
-    let minus = c.minus-k.ensures in (
-      simp length-set (omega arith),
-      simp length-set (search rules),
-      step x now.i now.f (omega arith) (minus-same x minus) c.add_scaled.ensures ∙ now.invariant.2,
-    )
+    step x now.i now.f (omega arith) (minus-same x c.minus-k.ensures) c.add_scaled.ensures ∙ now.invariant
 
 pub returns : goal.returns
 returns c =
     let now = c.loop-i in
-    let x = c.args.x in
-    let rest : times_factor p x (drop now.i now.f) ≡ drop now.i now.f = short x _ (omega (arith, length-drop now.i now.f)) in
-    sym (take-append-drop now.i now.f) ∙ sym (ap (λ (r : List ℕ). take now.i now.f ++ r) rest) ∙ now.invariant.2
+    let rest = short c.args.x (drop now.i now.f) (omega (arith, length-drop now.i now.f)) in
+    rw (rest, take-append-drop) at now.invariant

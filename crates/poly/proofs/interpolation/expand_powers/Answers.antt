@@ -4,15 +4,13 @@ use mathlib.Core.List.{List, ◌∷◌, ◌++◌}
 use Prim.Native.Nat.{ℕ, suc, ◌+◌, ◌-◌, ◌<◌}
 use native.Mathlib.Nat.{add-zero, sub-zero}
 use native.Mathlib.Omega.{arith}
-use borrow.Author.Rules.{rules}
-use lib.ListN.{length, take, drop, get_or, length-append, length-take, length-drop, take-append-drop}
+use lib.ListN.{length, take, drop, get_or, take-append-drop}
 use lib.Seq.{drop-cons}
 use Rattle.field.specs.Field.{p}
-use Rattle.poly.specs.Factor.{times_factor}
 use Rattle.algebra.specs.Points.{consecutive}
+use Rattle.poly.specs.Factor.{times_factor}
 use Rattle.poly.specs.Interpolation.{powers}
 use Rattle.poly.proofs.Slices.{lent_back, back-part}
-use Rattle.poly.proofs.FactorLaws.{length-factor}
 use Rattle.poly.proofs.interpolation.expand_powers.Goals as goal
 
 step : (v : List ℕ) (x m j : ℕ) → j < length v →
@@ -25,31 +23,26 @@ unfolding powers consecutive
 loop-i-init c =
     let v = c.args.v.now in
     let none : length v - length v ≡ 0 = omega arith in
-    (search rules, search rules, rw none (sym (take-append-drop (length v) v)))
+    rw none (sym (take-append-drop (length v) v))
 
 pub loop-i-preserved : goal.loop-i-preserved
 loop-i-preserved c =
     let now = c.loop-i in
-    let args = c.args in
-    let v = args.v.now in
+    let v = c.args.v.now in
     let j = now.i - 1 in
-    let x = args.first + j in
+    let x = c.args.first + j in
     let m = length v - suc j in
     let i-is : now.i ≡ suc j = omega arith in
-    let next : args.first + suc j ≡ suc x = omega arith in
+    let next : c.args.first + suc j ≡ suc x = omega arith in
     let left : length v - j ≡ suc m = omega arith in
     let here : j < length v = omega arith in
     let done = powers p (consecutive (suc x) m) (drop (suc j) v) in
-    let so_far : now.v ≡ take (suc j) v ++ done = rw (i-is, next) at now.invariant.2 in
-    let back = lent_back (λ (part : List ℕ). times_factor p x part) now.v j c.times_factor.ensures in (
-      omega arith,
-      rw (back, length-append, length-factor, length-drop, length-take) (omega arith),
-      back ∙ rw (so_far, back-part v j here done (λ (part : List ℕ). times_factor p x part), left)
-          (ap (λ (r : List ℕ). take j v ++ r) (step v x m j here)),
-    )
+    let so_far : now.v ≡ take (suc j) v ++ done = rw (i-is, next) at now.invariant in
+    lent_back (λ (part : List ℕ). times_factor p x part) now.v j c.times_factor.ensures ∙
+    rw (so_far, back-part v j here done (λ (part : List ℕ). times_factor p x part), left)
+    (ap (λ (r : List ℕ). take j v ++ r) (step v x m j here))
 
 pub returns : goal.returns
 returns c =
-    let now = c.loop-i in
-    let none : now.i ≡ 0 = omega arith in
-    rw (none, add-zero, sub-zero) at now.invariant.2
+    let none : c.loop-i.i ≡ 0 = omega arith in
+    rw (none, add-zero, sub-zero) at c.loop-i.invariant
