@@ -7,6 +7,7 @@ ghost use Rattle.algebra.specs.Points.{consecutive};
 ghost use Rattle.poly.specs.Interpolation.{differences, newton, powers, interpolated};
 
 // (value − y) times the inverse of 1, of 2, .., for the values after y.
+#[tactic(auto, unfolding(crate::specs::Interpolation::differences))]
 fn subtract_and_divide(v: &mut [u32], y: u32, inverses: &[u32; 256])
     requires { (length v.old < 256) × (y < p) × Words p v.old × InverseTable p inverses.now }
     ensures { v.new ≡ differences p inverses.now y v.old }
@@ -18,6 +19,7 @@ fn subtract_and_divide(v: &mut [u32], y: u32, inverses: &[u32; 256])
 }
 
 // Newton's coefficients of the values.
+#[tactic(auto, unfolding(crate::specs::Interpolation::newton))]
 fn divide_differences(v: &mut [u32], inverses: &[u32; 256])
     requires { (length v.old ≤ 256) × Words p v.old × InverseTable p inverses.now }
     ensures { v.new ≡ newton p inverses.now (length v.old) v.old }
@@ -29,6 +31,7 @@ fn divide_differences(v: &mut [u32], inverses: &[u32; 256])
 }
 
 // Newton's coefficients at the points first, first + 1, .. to powers.
+#[tactic(auto, unfolding(crate::specs::Interpolation::powers, algebra::specs::Points::consecutive))]
 fn expand_powers(v: &mut [u32], first: u32)
     requires { first + length v.old ≤ 4294967296 }
     ensures { v.new ≡ powers p (consecutive first (length v.old)) v.old }

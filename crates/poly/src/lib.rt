@@ -26,6 +26,7 @@ pub fn value_at(f: &[u32], s: u32) -> u32
 }
 
 // dst += k · src. A caller lends the part of its words at which src is to begin, `&mut dst[at..]`.
+#[tactic(auto, unfolding(crate::specs::AddScaled::scaled))]
 pub fn add_scaled(dst: &mut [u32], k: u32, src: &[u32])
     requires { length src.now ≤ length dst.old }
     ensures { dst.new ≡ scaled p k src.now dst.old }
@@ -36,6 +37,7 @@ pub fn add_scaled(dst: &mut [u32], k: u32, src: &[u32])
 }
 
 // The first word plus (X − x) times the other words: with a first word 0, times (X − x) in place.
+#[tactic(auto, unfolding(crate::specs::Factor::times_factor))]
 pub fn times_factor(f: &mut [u32], x: u32)
     ensures { f.new ≡ times_factor p x f.old }
 {
@@ -48,6 +50,7 @@ pub fn times_factor(f: &mut [u32], x: u32)
 
 // The target of the points first, first + 1, .., one fewer than z has words; what z held before does not count.
 // The last point is multiplied in first: the target of the points done lies at the end of z.
+#[tactic(auto, unfolding(algebra::specs::Points::target, algebra::specs::Points::consecutive))]
 pub fn target_from(z: &mut [u32], first: u32)
     requires { (0 < length z.old) × (first + length z.old ≤ 4294967296) }
     ensures { z.new ≡ target p (consecutive first (length z.old - 1)) }
@@ -69,6 +72,7 @@ pub fn target(z: &mut [u32])
 }
 
 // room += f · g.
+#[tactic(auto, unfolding(crate::specs::Product::add_product))]
 pub fn add_product(room: &mut [u32], f: &[u32], g: &[u32])
     requires { length f.now + length g.now ≤ length room.old + 1 }
     ensures { room.new ≡ add_product p f.now g.now room.old }
@@ -90,6 +94,7 @@ pub fn product(f: &[u32], g: &[u32]) -> [u32; PRODUCT]
 
 // Division by a monic list, of which `low` is all but the leading 1: the room ends as as many remainder words as
 // `low` has, then the quotient words.
+#[tactic(auto, unfolding(crate::specs::Division::division))]
 pub fn divide(room: &mut [u32], low: &[u32])
     requires { length low.now ≤ length room.old }
     ensures { room.new ≡ division p low.now (length room.old - length low.now) room.old }

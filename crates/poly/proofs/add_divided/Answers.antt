@@ -1,17 +1,18 @@
 -- A turn makes the next word of the quotient by X − x, which is a value at x, and adds k times it at i.
-use mathlib.Core.Path.{◌≡◌, refl, sym, ap}
-use mathlib.Core.List.{List, [], ◌∷◌, ◌++◌, append-nil}
+use mathlib.Core.Path.{◌≡◌, refl, ap}
+use mathlib.Core.List.{List, [], ◌∷◌, ◌++◌}
 use Prim.Native.Nat.{ℕ, zero, suc, ◌+◌, ◌*◌, ◌-◌, ◌<◌, ◌%◌}
 use native.Mathlib.Numerals.{add-one}
 use native.Mathlib.Omega.{arith}
-use lib.ListN.{length, take, drop, get_or, drop_of_length-le}
-use lib.Seq.{drop-cons, drop-length, take-length}
+use lib.ListN.{length, take, drop, get_or}
+use lib.Seq.{drop-cons}
+use Rattle.std.proofs.lemmas.Grind.{common_steps}
 use Rattle.algebra.specs.Polynomial.{value, divided}
 use Rattle.algebra.proofs.Congruence.{≈_refl, ≈-reduced}
 use Rattle.field.specs.Field.{p}
 use Rattle.poly.specs.AddScaled.{scaled}
 use Rattle.poly.proofs.ScaledLaws.{scaled-nil}
-use Rattle.poly.proofs.Slices.{same_word, running, back_get, back-set}
+use Rattle.poly.proofs.Slices.{same_word, back_get, back-set}
 use Rattle.poly.proofs.add_divided.Goals as goal
 
 -- word j of the quotient by X − x
@@ -30,14 +31,15 @@ step column z k x j hz hc e n =
     rw (drop-cons column j 0, drop-divided z x j, n, e)
     (ap (λ (w : ℕ). w ∷ scaled p k (drop (suc j) (divided x z)) (drop (suc j) column)) (same_word _ (≈_refl p k) (≈-reduced p _)))
 
+-- Horner's step: one word more in front of those that the running word stands for
+horner : (z : List ℕ) (x j : ℕ) {word next : ℕ} → j < length z → word ≡ value (drop (suc j) z) x % p →
+    next ≡ (get_or z j 0 + x * word) % p → next ≡ value (drop j z) x % p
+unfolding value
+horner z x j h e n = rw (n, e, drop-cons z j 0) (same_word _ (≈_refl p x) (≈-reduced p _))
+
 pub loop-i-init : goal.loop-i-init
 unfolding value
-loop-i-init c =
-    let column = c.args.column.now in
-    record {
-      running = rw (drop_of_length-le c.args.z.now {i = suc (length column)} (omega arith));
-      done = sym (rw (drop-length column, scaled-nil p c.args.k _, append-nil (take (length column) column), take-length column));
-    }
+loop-i-init c = grind (arith, common_steps, scaled-nil)
 
 pub loop-i-preserved : goal.loop-i-preserved
 loop-i-preserved c =
@@ -51,7 +53,7 @@ loop-i-preserved c =
     let so_far : now.column ≡ take (suc j) column ++ done = rw i-is at now.invariant.done in
     let here : j < length column = omega arith in
     let word : c.add_scaled-word.result ≡ value (drop (suc j) z) args.x % p =
-    running p z args.x (suc j) (omega arith) (rw i-is at now.invariant.running) (rw add-one at c.add_scaled-word.ensures) in
+    horner z args.x (suc j) (omega arith) (rw i-is at now.invariant.running) (rw add-one at c.add_scaled-word.ensures) in
     let written : c.add_scaled.result ≡ (get_or column j 0 + args.k * c.add_scaled-word.result) % p =
     rw (so_far, back_get column j here done) at c.add_scaled.ensures in
     record {
@@ -59,8 +61,3 @@ loop-i-preserved c =
       done = rw (so_far, back-set column j here done _)
           (ap (λ (r : List ℕ). take j column ++ r) (step column z args.k args.x j (omega arith) here word written));
     }
-
-pub returns : goal.returns
-returns c =
-    let none : c.loop-i.i ≡ 0 = omega arith in
-    rw none at c.loop-i.invariant.done

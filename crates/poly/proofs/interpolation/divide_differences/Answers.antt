@@ -1,16 +1,16 @@
 -- A turn leaves the word at i and makes the words after it, which are lent, differences to it; they stay words below p.
 use mathlib.Core.Path.{◌≡◌, ◌∙◌}
-use mathlib.Core.List.{List, ◌++◌, append_assoc, append-nil}
-use Prim.Native.Nat.{ℕ, suc, ◌+◌, ◌-◌, ◌≤◌, ◌<◌}
+use mathlib.Core.List.{List, ◌++◌, append_assoc}
+use Prim.Native.Nat.{ℕ, suc, ◌+◌, ◌-◌, ◌<◌}
 use native.Mathlib.Numerals.{add-one}
 use native.Mathlib.Omega.{arith}
-use lib.ListN.{length, take, drop, get_or, drop_of_length-le}
-use lib.Seq.{drop-cons, take-suc, take_all, take_at, drop_at, length-take-le}
+use lib.ListN.{length, take, drop, get_or}
+use lib.Seq.{drop-cons, take-suc, take_at, drop_at, length-take-le}
 use Rattle.field.specs.Field.{p}
 use Rattle.poly.specs.Interpolation.{differences, newton}
 use Rattle.poly.proofs.Slices.{lent_back}
 use Rattle.poly.proofs.Words.{words_append, words_take, words-drop}
-use Rattle.poly.proofs.InterpolationLaws.{newton-nil, words-differences}
+use Rattle.poly.proofs.InterpolationLaws.{words-differences}
 use Rattle.poly.proofs.interpolation.divide_differences.Goals as goal
 
 step : (t v : List ℕ) (n i : ℕ) {next : List ℕ} → i < length v → next ≡ take (i + 1) v ++ differences p t (get_or v i 0) (drop (i + 1) v) →
@@ -35,9 +35,3 @@ loop-i-preserved c =
           (words-differences {p = p} (omega arith) t y (drop (i + 1) now.v) (words-drop (i + 1) now.v now.invariant.words)));
       done = step t now.v _ i (omega arith) back ∙ (rw left at now.invariant.done);
     }
-
-pub returns : goal.returns
-returns c =
-    let now = c.loop-i in
-    let over : length now.v ≤ now.i = omega arith in
-    rw (drop_of_length-le now.v over, newton-nil, append-nil, take_all now.i now.v over) at now.invariant.done
