@@ -21,11 +21,6 @@ use Rattle.poly.proofs.Words.{words-cons, words-first, words-rest}
 use Rattle.poly.proofs.FactorLaws.{length-factor, words-factor, factor-value}
 use Rattle.algebra.proofs.Consecutive.{length-consecutive, consecutive_at, distinct-consecutive}
 
-pub newton-nil : (p : ℕ) (t : List ℕ) (n : ℕ) → newton p t n [] ≡ []
-unfolding newton
-newton-nil p t zero = refl
-newton-nil p t (suc n) = refl
-
 pub length-differences : (p : ℕ) (t : List ℕ) (y : ℕ) (v : List ℕ) → length (differences p t y v) ≡ length v
 unfolding differences
 length-differences p t y [] = refl

@@ -15,6 +15,10 @@ use Rattle.algebra.proofs.Congruence.{≈_refl, ≈-eq, ≈_trans, ≈-plus, ≈
 pub same_word : {p k l b c : ℕ} (a : ℕ) → k ≈⟨ p ⟩ l → b ≈⟨ p ⟩ c → (a + k * b) % p ≡ (a + l * c) % p
 same_word {p} a h e = (≈-plus (≈_refl p a) (≈-product h e)).same
 
+-- a number in a product may be reduced first
+pub reduced_word : (p a k v : ℕ) → (a + k * (v % p)) % p ≡ (a + k * v) % p
+reduced_word p a k v = same_word a (≈_refl p k) (≈-reduced p v)
+
 -- the word that `minus(0, x)` gives
 pub minus-same : {p k : ℕ} (x : ℕ) → k ≡ (0 + negative p x) % p → k ≈⟨ p ⟩ negative p x
 minus-same {p} x e = ≈_trans (≈-eq p (rw zero-add at e)) (≈-reduced p (negative p x))

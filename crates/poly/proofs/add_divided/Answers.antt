@@ -8,11 +8,10 @@ use lib.ListN.{length, take, drop, get_or}
 use lib.Seq.{drop-cons}
 use Rattle.std.proofs.lemmas.Grind.{common_steps}
 use Rattle.algebra.specs.Polynomial.{value, divided}
-use Rattle.algebra.proofs.Congruence.{≈_refl, ≈-reduced}
 use Rattle.field.specs.Field.{p}
 use Rattle.poly.specs.AddScaled.{scaled}
 use Rattle.poly.proofs.ScaledLaws.{scaled-nil}
-use Rattle.poly.proofs.Slices.{same_word, back_get, back-set}
+use Rattle.poly.proofs.Slices.{reduced_word, back_get, back-set}
 use Rattle.poly.proofs.add_divided.Goals as goal
 
 -- word j of the quotient by X − x
@@ -27,15 +26,13 @@ step : (column z : List ℕ) (k x j : ℕ) {word v : ℕ} → suc j < length z �
     v ≡ (get_or column j 0 + k * word) % p →
     v ∷ scaled p k (drop (suc j) (divided x z)) (drop (suc j) column) ≡ scaled p k (drop j (divided x z)) (drop j column)
 unfolding scaled
-step column z k x j hz hc e n =
-    rw (drop-cons column j 0, drop-divided z x j, n, e)
-    (ap (λ (w : ℕ). w ∷ scaled p k (drop (suc j) (divided x z)) (drop (suc j) column)) (same_word _ (≈_refl p k) (≈-reduced p _)))
+step column z k x j hz hc e n = rw (drop-cons column j 0, drop-divided z x j, n, e, reduced_word)
 
 -- Horner's step: one word more in front of those that the running word stands for
 horner : (z : List ℕ) (x j : ℕ) {word next : ℕ} → j < length z → word ≡ value (drop (suc j) z) x % p →
     next ≡ (get_or z j 0 + x * word) % p → next ≡ value (drop j z) x % p
 unfolding value
-horner z x j h e n = rw (n, e, drop-cons z j 0) (same_word _ (≈_refl p x) (≈-reduced p _))
+horner z x j h e n = rw (n, e, drop-cons z j 0, reduced_word)
 
 pub loop-i-init : goal.loop-i-init
 unfolding value
@@ -54,8 +51,7 @@ loop-i-preserved c =
     let here : j < length column = omega arith in
     let word : c.add_scaled-word.result ≡ value (drop (suc j) z) args.x % p =
     horner z args.x (suc j) (omega arith) (rw i-is at now.invariant.running) (rw add-one at c.add_scaled-word.ensures) in
-    let written : c.add_scaled.result ≡ (get_or column j 0 + args.k * c.add_scaled-word.result) % p =
-    rw (so_far, back_get column j here done) at c.add_scaled.ensures in
+    let written = rw (so_far, back_get column j here done) at c.add_scaled.ensures in
     record {
       running = word;
       done = rw (so_far, back-set column j here done _)

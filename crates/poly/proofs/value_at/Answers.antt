@@ -9,15 +9,14 @@ use Rattle.std.proofs.lemmas.Iterator.Consumers.{fold_from_yields_List}
 use Rattle.std.proofs.lemmas.Grind.{reverse_onto}
 use Rattle.std.proofs.lemmas.List.Sums.{fold-append}
 use Rattle.algebra.specs.Polynomial.{value}
-use Rattle.algebra.proofs.Congruence.{≈_refl, ≈-reduced}
 use Rattle.field.specs.Field.{p}
-use Rattle.poly.proofs.Slices.{same_word}
+use Rattle.poly.proofs.Slices.{reduced_word}
 use Rattle.poly.proofs.value_at.Goals as goal
 
 horner : (f : List ℕ) (s : ℕ) → fold (λ sum a. (a + s * sum) % p) 0 (reverse f) ≡ value f s % p
 unfolding value
 horner [] s = refl
-horner (a ∷ f) s = rw (reverse_onto f a [], fold-append, horner f s) (same_word a (≈_refl p s) (≈-reduced p (value f s)))
+horner (a ∷ f) s = rw (reverse_onto f a [], fold-append, horner f s, reduced_word)
 
 pub returns : goal.returns
 returns c =

@@ -2,10 +2,10 @@
 use mathlib.Core.Path.{◌≡◌, ◌∙◌}
 use mathlib.Core.List.{List, ◌++◌, append_assoc}
 use Prim.Native.Nat.{ℕ, suc, ◌+◌, ◌-◌, ◌<◌}
-use native.Mathlib.Numerals.{add-one}
 use native.Mathlib.Omega.{arith}
 use lib.ListN.{length, take, drop, get_or}
-use lib.Seq.{drop-cons, take-suc, take_at, drop_at, length-take-le}
+use Rattle.std.proofs.lemmas.List.{take_more, drop_more}
+use lib.Seq.{take_at, drop_at, length-take-le}
 use Rattle.field.specs.Field.{p}
 use Rattle.poly.specs.Interpolation.{differences, newton}
 use Rattle.poly.proofs.Slices.{lent_back}
@@ -19,7 +19,7 @@ unfolding newton
 step t v n i h e =
     let d = differences p t (get_or v i 0) (drop (i + 1) v) in
     let size : length (take (i + 1) v) ≡ i + 1 = length-take-le (i + 1) v (omega arith) in
-    rw (e, take_at (take (i + 1) v) d (i + 1) size, drop_at (take (i + 1) v) d (i + 1) size, add-one, take-suc v i 0, drop-cons v i 0, append_assoc)
+    rw (e, take_at (take (i + 1) v) d (i + 1) size, drop_at (take (i + 1) v) d (i + 1) size, take_more v i 0 h, drop_more v i 0 h, append_assoc)
 
 pub loop-i-preserved : goal.loop-i-preserved
 loop-i-preserved c =
