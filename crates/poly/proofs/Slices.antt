@@ -7,8 +7,7 @@ use native.Mathlib.Nat.{zero-add}
 use native.Mathlib.Omega.{arith}
 use borrow.Rule.Slice.PartMut.{put_mid}
 use lib.ListN.{length, take, drop, set, get_or, length-drop, drop_of_length-le}
-use lib.Seq.{take-suc, take_all, take_at, drop_at, set_at, get_or_at, length-take-le}
-use lib.Seq.{get_or-append-add}
+use lib.Seq.{take-suc, take_all, take_at, drop_at, set_at, get_or_at, length-take-le, get_or-append-add}
 use Rattle.algebra.specs.Congruence.{◌≈⟨◌⟩◌, negative}
 use Rattle.algebra.proofs.Congruence.{≈_refl, ≈-eq, ≈_trans, ≈-plus, ≈-product, ≈-reduced}
 
