@@ -17,7 +17,7 @@ pub const MINUS_ONE: u32 = P - 1;
 pub fn add_scaled(d: u32, k: u32, s: u32) -> u32
     ensures { result ≡ (d + k * s) % p }
 {
-    ((d as u64 + (k as u64) * (s as u64)) % (P as u64)) as u32
+    ((u64::from(d) + u64::from(k) * u64::from(s)) % u64::from(P)) as u32
 }
 
 pub fn plus(a: u32, b: u32) -> u32

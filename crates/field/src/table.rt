@@ -38,6 +38,8 @@ const INVERSES: [u32; 256] = [
 
 // The whole table, handed out once: a lookup in the constant itself copies all of it. A caller keeps what it
 // gets, `let t = inverses();`, and lends `&t` to its loops. The inverse of n is entry n - 1.
+// No struct holds it with `InverseTable` as its invariant: `interpolate` takes any array of which that clause holds, and may
+// not ask for more (docs/CONTRACTS.md).
 pub fn inverses() -> [u32; 256]
     ensures { InverseTable p result }
 {

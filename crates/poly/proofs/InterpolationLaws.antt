@@ -10,21 +10,15 @@ use lib.ListN.{length, get_or}
 use Rattle.algebra.specs.Congruence.{◌≈⟨◌⟩◌, negative, Inverse}
 use Rattle.algebra.specs.Prime.{Prime}
 use Rattle.algebra.specs.Polynomial.{Words, value}
-use Rattle.algebra.specs.Points.{Through}
+use Rattle.algebra.specs.Points.{consecutive, Through}
 use Rattle.algebra.proofs.Congruence.{≈_trans, ≈-plus, ≈-times, ≈-negative, ≈-reduced, ≈-whole, by}
 use Rattle.algebra.proofs.Inverse.{positive}
 use Rattle.algebra.proofs.Interpolation.{interpolation_unique}
 use Rattle.poly.specs.Factor.{times_factor}
-use Rattle.algebra.specs.Points.{consecutive}
 use Rattle.poly.specs.Interpolation.{differences, newton, powers, interpolated}
 use Rattle.poly.proofs.Words.{words-cons, words-first, words-rest}
 use Rattle.poly.proofs.FactorLaws.{length-factor, words-factor, factor-value}
 use Rattle.algebra.proofs.Consecutive.{length-consecutive, consecutive_at, distinct-consecutive}
-
-pub newton-nil : (p : ℕ) (t : List ℕ) (n : ℕ) → newton p t n [] ≡ []
-unfolding newton
-newton-nil p t zero = refl
-newton-nil p t (suc n) = refl
 
 pub length-differences : (p : ℕ) (t : List ℕ) (y : ℕ) (v : List ℕ) → length (differences p t y v) ≡ length v
 unfolding differences

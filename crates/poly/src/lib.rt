@@ -20,51 +20,47 @@ pub const PRODUCT: usize = 513;
 pub fn value_at(f: &[u32], s: u32) -> u32
     ensures { result ≡ value f.now s % p }
 {
-    let mut sum = 0;
-    let mut i = f.len();
-    while 0 < i {
-        i -= 1;
-        sum = field::add_scaled(f[i], s, sum);
-    }
-    sum
+    f.iter()
+        .rev()
+        .fold(0, |sum, word| field::add_scaled(*word, s, sum))
 }
 
 // dst += k · src. A caller lends the part of its words at which src is to begin, `&mut dst[at..]`.
+#[tactic(auto, unfolding(crate::specs::AddScaled::scaled))]
 pub fn add_scaled(dst: &mut [u32], k: u32, src: &[u32])
     requires { length src.now ≤ length dst.old }
     ensures { dst.new ≡ scaled p k src.now dst.old }
 {
-    let mut i = 0;
-    while i < src.len() {
-        dst[i] = field::add_scaled(dst[i], k, src[i]);
-        i += 1;
+    // By index: of `dst.iter_mut().zip(src)` a proof knows that dst keeps its length, and none of its words.
+    for (i, word) in src.iter().enumerate() {
+        dst[i] = field::add_scaled(dst[i], k, *word);
     }
 }
 
 // The first word plus (X − x) times the other words: with a first word 0, times (X − x) in place.
+#[tactic(auto, unfolding(crate::specs::Factor::times_factor))]
 pub fn times_factor(f: &mut [u32], x: u32)
     ensures { f.new ≡ times_factor p x f.old }
 {
     let k = field::minus(0, x);
-    let mut i = 0;
-    while i + 1 < f.len() {
+    // With `for i in 1..f.len()` this takes 4,255 x86-64 instructions for 257 words, and 3,999 as it stands.
+    for i in 0..f.len().saturating_sub(1) {
         f[i] = field::add_scaled(f[i], k, f[i + 1]);
-        i += 1;
     }
 }
 
 // The target of the points first, first + 1, .., one fewer than z has words; what z held before does not count.
 // The last point is multiplied in first: the target of the points done lies at the end of z.
+#[tactic(auto, unfolding(algebra::specs::Points::target, algebra::specs::Points::consecutive))]
 pub fn target_from(z: &mut [u32], first: u32)
     requires { (0 < length z.old) × (first + length z.old ≤ 4294967296) }
     ensures { z.new ≡ target p (consecutive first (length z.old - 1)) }
 {
-    let mut i = z.len() - 1;
-    z[i] = 1;
-    while 0 < i {
-        i -= 1;
+    let last = z.len() - 1;
+    z[last] = 1;
+    for i in (0..last).rev() {
         z[i] = 0;
-        times_factor(&mut z[i..], first + (i as u32));
+        times_factor(&mut z[i..], first + i as u32);
     }
 }
 
@@ -77,14 +73,13 @@ pub fn target(z: &mut [u32])
 }
 
 // room += f · g.
+#[tactic(auto, unfolding(crate::specs::Product::add_product))]
 pub fn add_product(room: &mut [u32], f: &[u32], g: &[u32])
     requires { length f.now + length g.now ≤ length room.old + 1 }
     ensures { room.new ≡ add_product p f.now g.now room.old }
 {
-    let mut i = 0;
-    while i < f.len() {
-        add_scaled(&mut room[i..], f[i], g);
-        i += 1;
+    for (i, word) in f.iter().enumerate() {
+        add_scaled(&mut room[i..], *word, g);
     }
 }
 
@@ -93,20 +88,19 @@ pub fn product(f: &[u32], g: &[u32]) -> [u32; PRODUCT]
     requires { (length f.now ≤ 257) × (length g.now ≤ 257) }
     ensures { result ≡ padded 513 (reduced p (product f.now g.now)) }
 {
-    let mut room = [0u32; PRODUCT];
+    let mut room = [0; PRODUCT];
     add_product(&mut room, f, g);
     room
 }
 
 // Division by a monic list, of which `low` is all but the leading 1: the room ends as as many remainder words as
 // `low` has, then the quotient words.
+#[tactic(auto, unfolding(crate::specs::Division::division))]
 pub fn divide(room: &mut [u32], low: &[u32])
     requires { length low.now ≤ length room.old }
     ensures { room.new ≡ division p low.now (length room.old - length low.now) room.old }
 {
-    let mut i = room.len() - low.len();
-    while 0 < i {
-        i -= 1;
+    for i in (0..room.len() - low.len()).rev() {
         let k = field::minus(0, room[i + low.len()]);
         add_scaled(&mut room[i..], k, low);
     }
@@ -118,10 +112,8 @@ pub fn add_divided(column: &mut [u32], k: u32, z: &[u32], x: u32)
     ensures { column.new ≡ scaled p k (divided x z.now) column.old }
 {
     let mut word = 0;
-    let mut i = column.len();
-    while 0 < i {
-        word = field::add_scaled(z[i], x, word);
-        i -= 1;
+    for i in (0..column.len()).rev() {
+        word = field::add_scaled(z[i + 1], x, word);
         column[i] = field::add_scaled(column[i], k, word);
     }
 }

@@ -1,13 +1,12 @@
 -- One turn leaves the remainder; it is not 0, since p is prime.
 use mathlib.Core.Path.{◌≡◌, ap}
 use Prim.Native.Nat.{ℕ, ◌+◌, ◌*◌, ◌-◌, ◌/◌, ◌%◌}
-use native.Mathlib.Nat.{mod-lt, mod-add-div', div-le_self}
+use native.Mathlib.Nat.{mod-add-div', div-le_self}
 use native.Mathlib.Omega.{arith}
 use borrow.Author.Rules.{rules}
 use Rattle.algebra.specs.Congruence.{◌≈⟨◌⟩◌}
-use Rattle.algebra.proofs.Congruence.{≈-eq, ≈_sym, ≈-plus, ≈-times, ≈-whole, ≈-reduced, by}
+use Rattle.algebra.proofs.Congruence.{≈_sym, ≈-plus, ≈-times, ≈-whole, ≈-reduced, by}
 use Rattle.algebra.proofs.Inverse.{leaves}
-use Rattle.field.specs.Field.{p}
 use Rattle.field.proofs.PrimeField.{p_prime}
 use Rattle.field.proofs.word_inverse.Goals as goal
 
@@ -19,16 +18,6 @@ turn {n} {rest} a f h =
     by (≈-plus (≈-plus (≈-times a (≈-reduced n (f * m))) (≈-times m h)) (≈-plus (≈-whole n 0 rest) (≈_sym (≈-whole n 0 1))))
     (omega (arith, mod-add-div' n rest, ap (λ (x : ℕ). x * rest) whole))
 
-pub loop-rest-init : goal.loop-rest-init
-loop-rest-init c =
-    record { positive = search rules; below = search rules; word = search rules; leaves_rest = ≈-eq p (omega arith) }
-
-pub overflow_sub-rest : goal.overflow_sub-rest
-overflow_sub-rest c = div-le_self p c.loop-rest.rest
-
-pub loop-rest-smaller : goal.loop-rest-smaller
-loop-rest-smaller c = mod-lt p (omega arith)
-
 pub loop-rest-preserved : goal.loop-rest-preserved
 loop-rest-preserved c =
     let now = c.loop-rest in
@@ -38,8 +27,3 @@ loop-rest-preserved c =
       word = search rules;
       leaves_rest = rw c.times-factor.ensures (turn _ now.factor now.invariant.leaves_rest);
     }
-
-pub returns : goal.returns
-returns c =
-    let one : c.loop-rest.rest ≡ 1 = omega arith in
-    record { word = search rules; leaves_one = rw one at c.loop-rest.invariant.leaves_rest }

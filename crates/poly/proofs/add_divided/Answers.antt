@@ -1,17 +1,17 @@
 -- A turn makes the next word of the quotient by X − x, which is a value at x, and adds k times it at i.
-use mathlib.Core.Path.{◌≡◌, refl, sym, ap}
-use mathlib.Core.List.{List, [], ◌∷◌, ◌++◌, append-nil}
+use mathlib.Core.Path.{◌≡◌, refl, ap}
+use mathlib.Core.List.{List, [], ◌∷◌, ◌++◌}
 use Prim.Native.Nat.{ℕ, zero, suc, ◌+◌, ◌*◌, ◌-◌, ◌<◌, ◌%◌}
+use native.Mathlib.Numerals.{add-one}
 use native.Mathlib.Omega.{arith}
-use borrow.Author.Rules.{rules}
-use lib.ListN.{length, take, drop, get_or, length-set, drop_of_length-le}
-use lib.Seq.{drop-cons, drop-length, take-length}
+use lib.ListN.{length, take, drop, get_or}
+use lib.Seq.{drop-cons}
+use Rattle.std.proofs.lemmas.Grind.{common_steps}
 use Rattle.algebra.specs.Polynomial.{value, divided}
-use Rattle.algebra.proofs.Congruence.{≈_refl, ≈-reduced}
 use Rattle.field.specs.Field.{p}
 use Rattle.poly.specs.AddScaled.{scaled}
 use Rattle.poly.proofs.ScaledLaws.{scaled-nil}
-use Rattle.poly.proofs.Slices.{same_word, running, back_get, back-set}
+use Rattle.poly.proofs.Slices.{reduced_word, back_get, back-set}
 use Rattle.poly.proofs.add_divided.Goals as goal
 
 -- word j of the quotient by X − x
@@ -26,20 +26,17 @@ step : (column z : List ℕ) (k x j : ℕ) {word v : ℕ} → suc j < length z �
     v ≡ (get_or column j 0 + k * word) % p →
     v ∷ scaled p k (drop (suc j) (divided x z)) (drop (suc j) column) ≡ scaled p k (drop j (divided x z)) (drop j column)
 unfolding scaled
-step column z k x j hz hc e n =
-    rw (drop-cons column j 0, drop-divided z x j, n, e)
-    (ap (λ (w : ℕ). w ∷ scaled p k (drop (suc j) (divided x z)) (drop (suc j) column)) (same_word _ (≈_refl p k) (≈-reduced p _)))
+step column z k x j hz hc e n = rw (drop-cons column j 0, drop-divided z x j, n, e, reduced_word)
+
+-- Horner's step: one word more in front of those that the running word stands for
+horner : (z : List ℕ) (x j : ℕ) {word next : ℕ} → j < length z → word ≡ value (drop (suc j) z) x % p →
+    next ≡ (get_or z j 0 + x * word) % p → next ≡ value (drop j z) x % p
+unfolding value
+horner z x j h e n = rw (n, e, drop-cons z j 0, reduced_word)
 
 pub loop-i-init : goal.loop-i-init
 unfolding value
-loop-i-init c =
-    let args = c.args in
-    let column = args.column.now in (
-      search rules,
-      search rules,
-      rw (drop_of_length-le args.z.now {i = suc (length column)} (omega arith)),
-      sym (rw (drop-length column, scaled-nil p args.k _, append-nil (take (length column) column), take-length column)),
-    )
+loop-i-init c = grind (arith, common_steps, scaled-nil)
 
 pub loop-i-preserved : goal.loop-i-preserved
 loop-i-preserved c =
@@ -50,21 +47,13 @@ loop-i-preserved c =
     let j = now.i - 1 in
     let i-is : now.i ≡ suc j = omega arith in
     let done = scaled p args.k (drop (suc j) (divided args.x z)) (drop (suc j) column) in
-    let so_far : now.column ≡ take (suc j) column ++ done = rw i-is at now.invariant.3 in
+    let so_far : now.column ≡ take (suc j) column ++ done = rw i-is at now.invariant.done in
     let here : j < length column = omega arith in
     let word : c.add_scaled-word.result ≡ value (drop (suc j) z) args.x % p =
-    rw i-is at (running p z args.x now.i (omega arith) now.invariant.2 c.add_scaled-word.ensures) in
-    let written : c.add_scaled.result ≡ (get_or column j 0 + args.k * c.add_scaled-word.result) % p =
-    rw (so_far, back_get column j here done) at c.add_scaled.ensures in (
-      search rules,
-      simp length-set (search rules),
-      word,
-      rw (so_far, back-set column j here done _)
-          (ap (λ (r : List ℕ). take j column ++ r) (step column z args.k args.x j (omega arith) here word written)),
-    )
-
-pub returns : goal.returns
-returns c =
-    let now = c.loop-i in
-    let none : now.i ≡ 0 = omega arith in
-    rw none at now.invariant.3
+    horner z args.x (suc j) (omega arith) (rw i-is at now.invariant.running) (rw add-one at c.add_scaled-word.ensures) in
+    let written = rw (so_far, back_get column j here done) at c.add_scaled.ensures in
+    record {
+      running = word;
+      done = rw (so_far, back-set column j here done _)
+          (ap (λ (r : List ℕ). take j column ++ r) (step column z args.k args.x j (omega arith) here word written));
+    }

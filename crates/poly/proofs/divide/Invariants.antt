@@ -1,7 +1,7 @@
 -- Invariant: the words from i on are divided, and the words before i are the given ones.
 use mathlib.Core.Path.{◌≡◌}
 use mathlib.Core.List.{◌++◌}
-use Prim.Native.Nat.{◌+◌, ◌-◌, ◌≤◌}
+use Prim.Native.Nat.{◌-◌}
 use lib.ListN.{length, take, drop}
 use Rattle.field.specs.Field.{p}
 use Rattle.poly.specs.Division.{division}
@@ -9,8 +9,4 @@ use Rattle.poly.proofs.divide.Given as goal
 
 abbrev pub invariant-loop-i : goal.invariant-loop-i
 invariant-loop-i l =
-    (l.i + length l.low ≤ length l.initial.room) × (length l.room ≡ length l.initial.room) ×
-    (l.room ≡ take l.i l.initial.room ++ division p l.low (length l.initial.room - length l.low - l.i) (drop l.i l.initial.room))
-
-abbrev pub decreases-loop-i : goal.decreases-loop-i
-decreases-loop-i l = l.i
+    l.room ≡ take l.i l.initial.room ++ division p l.low (length l.initial.room - length l.low - l.i) (drop l.i l.initial.room)

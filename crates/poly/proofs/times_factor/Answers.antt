@@ -1,29 +1,15 @@
 -- A turn adds −x times the next word to the word at i; the last word has none after it, and stays.
-use mathlib.Core.Path.{◌≡◌, refl, sym, ◌∙◌, ap}
-use mathlib.Core.List.{List, [], ◌∷◌, ◌++◌}
-use Prim.Native.Nat.{ℕ, suc, ◌+◌, ◌*◌, ◌≤◌, ◌<◌, ◌%◌}
-use native.Mathlib.Numerals.{add-one}
+use mathlib.Core.Path.{◌≡◌, refl, ◌∙◌}
+use mathlib.Core.List.{List, [], ◌∷◌}
+use Prim.Native.Nat.{ℕ, ◌≤◌}
 use native.Mathlib.Omega.{arith}
-use borrow.Author.Rules.{rules}
-use lib.ListN.{length, take, drop, set, get_or, length-set, length-drop, take-append-drop}
-use lib.Seq.{drop-cons}
-use Rattle.algebra.specs.Congruence.{◌≈⟨◌⟩◌, negative}
+use lib.ListN.{length}
+use Rattle.std.proofs.lemmas.Grind.{common_steps}
 use Rattle.algebra.proofs.Congruence.{≈_refl}
 use Rattle.field.specs.Field.{p}
 use Rattle.poly.specs.Factor.{times_factor}
-use Rattle.slices.proofs.Front.{front-word, rest-kept}
 use Rattle.poly.proofs.Slices.{same_word, minus-same}
 use Rattle.poly.proofs.times_factor.Goals as goal
-
-step : (x i : ℕ) (f : List ℕ) {k v : ℕ} → i + 1 < length f → k ≈⟨ p ⟩ negative p x → v ≡ (get_or f i 0 + k * get_or f (i + 1) 0) % p →
-    take (i + 1) (set f i v) ++ times_factor p x (drop (i + 1) (set f i v)) ≡ take i f ++ times_factor p x (drop i f)
-unfolding times_factor
-step x i f {k} {v} h same e =
-    let here : i < length f = omega arith in
-    let next : suc i < length f = omega arith in
-    rw (front-word f i v here, rest-kept f i v here, drop-cons f i 0, add-one, drop-cons f (suc i) 0, e, add-one)
-    (ap (λ (w : ℕ). take i f ++ w ∷ times_factor p x (get_or f (suc i) 0 ∷ drop (suc (suc i)) f))
-    (same_word (get_or f i 0) same (≈_refl p (get_or f (suc i) 0))))
 
 -- one word, or none, is done as it stands
 short : (x : ℕ) (f : List ℕ) → length f ≤ 1 → times_factor p x f ≡ f
@@ -33,18 +19,10 @@ short x (a ∷ []) h = refl
 short x (a ∷ b ∷ f) h = absurd (omega arith)
 
 pub loop-i-preserved : goal.loop-i-preserved
+unfolding times_factor
 loop-i-preserved c =
-    let now = c.loop-i in
-    let x = c.args.x in
-    let minus = c.minus-k.ensures in (
-      simp length-set (omega arith),
-      simp length-set (search rules),
-      step x now.i now.f (omega arith) (minus-same x minus) c.add_scaled.ensures ∙ now.invariant.2,
-    )
+    let word = c.add_scaled.ensures ∙ same_word {p = p} _ (minus-same c.args.x c.minus-k.ensures) (≈_refl p _) in
+    grind (arith, common_steps)
 
 pub returns : goal.returns
-returns c =
-    let now = c.loop-i in
-    let x = c.args.x in
-    let rest : times_factor p x (drop now.i now.f) ≡ drop now.i now.f = short x _ (omega (arith, length-drop now.i now.f)) in
-    sym (take-append-drop now.i now.f) ∙ sym (ap (λ (r : List ℕ). take now.i now.f ++ r) rest) ∙ now.invariant.2
+returns c = grind (arith, common_steps, short)
