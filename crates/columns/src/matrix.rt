@@ -25,7 +25,6 @@ fn matrix_verdict(circuit: &[u32], matrix: u32) -> Result<(), Refusal>
 }
 
 // The circuit, then 9 for both numbers, then 8.
-#[tactic(auto, using(outcome::proofs::Asked::asked, circuit::proofs::Formed::formed_behind), unfolding(qap::specs::Refusals::column_verdict))]
 pub fn column_verdict(circuit: &[u32], matrix: u32, column: u32, size: usize) -> Result<(), Refusal>
     ensures { outcome_of result ≡ column_verdict standard circuit.now matrix column size }
 {
@@ -37,7 +36,6 @@ pub fn column_verdict(circuit: &[u32], matrix: u32, column: u32, size: usize) ->
 }
 
 // The circuit, then 9 for the matrix number alone, then 8.
-#[tactic(auto, using(outcome::proofs::Asked::asked, circuit::proofs::Formed::formed_behind), unfolding(qap::specs::Refusals::columns_verdict))]
 pub fn columns_verdict(circuit: &[u32], matrix: u32, size: usize) -> Result<(), Refusal>
     ensures { outcome_of result ≡ columns_verdict standard circuit.now matrix size }
 {

@@ -12,7 +12,6 @@ ghost use Rattle.qap.specs.Setting.{standard};
 use outcome::Refusal;
 use qap::Blinders;
 
-#[tactic(auto, using(outcome::proofs::Asked::asked), unfolding(qap::specs::Refusals::quotient_verdict))]
 fn quotient_verdict(
     circuit: &[u32],
     values: &[u32],

@@ -1,6 +1,7 @@
 -- Refused by the verdict, or one column is filled.
 use native.Mathlib.Omega.{arith}
-use Rattle.outcome.proofs.Verdict.{is_accepted}
+use lib.ListN.{length}
+use Rattle.outcome.proofs.Asked.{asked}
 use Rattle.circuit.proofs.Formed.{circuit-formed}
 use Rattle.qap.proofs.Columns.{column_asked}
 use Rattle.qap.proofs.Filling.{filled-refused, filled-done}
@@ -10,19 +11,19 @@ use Rattle.qap.proofs.Standard.{count-points}
 use Rattle.columns.proofs.ColumnLaws.{one-column}
 use Rattle.columns.proofs.column.Goals as goal
 
-pub returns-then-verdict-ne0 : goal.returns-then-verdict-ne0
-returns-then-verdict-ne0 c = filled-refused _ c.column_verdict-verdict.ensures _ c.if-verdict-ne0.true
+pub returns-in_err-column_verdict : goal.returns-in_err-column_verdict
+returns-in_err-column_verdict c = filled-refused _ _ (grind (arith, asked)) (grind (arith, asked))
 
 pub fill_columns-requires : goal.fill_columns-requires
 fill_columns-requires c =
-    let asked = column_asked standard _ _ _ _ (is_accepted c.column_verdict-verdict.ensures c.if-verdict-ne0.false) in
-    let formed = (circuit-formed _ asked.circuit).formed in
+    let here = column_asked standard c.args.circuit.now c.args.matrix c.args.column (length c.args.out.now) (record { is_zero = grind (arith, asked) }) in
+    let formed = (circuit-formed _ here.circuit).formed in
     record {
       circuit = formed;
-      of_three = omega (arith, asked.of_three);
-      few = omega (arith, asked.among.at_most, formed.column_count.at_most);
-      size = omega (arith, asked.exact, count-points p c.args.circuit.now);
+      of_three = omega (arith, here.of_three);
+      few = omega (arith, here.among.at_most, formed.column_count.at_most);
+      size = omega (arith, here.exact, count-points p c.args.circuit.now);
     }
 
 pub returns : goal.returns
-returns c = filled-done _ c.column_verdict-verdict.ensures _ _ c.if-verdict-ne0.false (λ _. one-column c.fill_columns.ensures)
+returns c = filled-done _ _ _ (grind (arith, asked)) (one-column c.fill_columns.ensures)

@@ -1,14 +1,14 @@
 -- Refused by the verdict, or filled.
-use Rattle.outcome.proofs.Verdict.{is_accepted}
+use native.Mathlib.Omega.{arith}
+use Rattle.outcome.proofs.Asked.{asked}
 use Rattle.qap.proofs.Filling.{filled-refused, filled-done}
 use Rattle.quotient.proofs.quotient.Goals as goal
 
-pub returns-then-verdict-ne0 : goal.returns-then-verdict-ne0
-returns-then-verdict-ne0 c = filled-refused _ c.quotient_verdict-verdict.ensures _ c.if-verdict-ne0.true
+pub returns-in_err-quotient_verdict : goal.returns-in_err-quotient_verdict
+returns-in_err-quotient_verdict c = filled-refused _ _ (grind (arith, asked)) (grind (arith, asked))
 
 pub fill_quotient-requires : goal.fill_quotient-requires
-fill_quotient-requires c = is_accepted c.quotient_verdict-verdict.ensures c.if-verdict-ne0.false
+fill_quotient-requires c = record { is_zero = grind (arith, asked) }
 
 pub returns : goal.returns
-returns c =
-    filled-done _ c.quotient_verdict-verdict.ensures _ _ c.if-verdict-ne0.false (λ _. c.fill_quotient.ensures)
+returns c = filled-done _ _ _ (grind (arith, asked)) c.fill_quotient.ensures

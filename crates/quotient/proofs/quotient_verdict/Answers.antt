@@ -1,45 +1,42 @@
 -- The checks in their order; rows are judged beside a circuit and an assignment that were accepted.
+use mathlib.Core.Path.{◌≡◌}
 use native.Mathlib.Omega.{arith}
-use Rattle.outcome.proofs.Chain.{calls}
-use Rattle.outcome.proofs.Verdict.{is_accepted}
+use Rattle.outcome.specs.Verdict.{Accepted}
+use Rattle.outcome.proofs.Asked.{asked}
 use Rattle.circuit.proofs.Formed.{circuit-formed}
-use Rattle.assignment.proofs.Accepted.{assignment_formed}
-use Rattle.qap.specs.Refusals.{quotient_verdict}
-use Rattle.field.specs.Field.{p}
-use Rattle.qap.proofs.Settings.{ready}
-use Rattle.qap.proofs.Standard.{quotient-words}
 use Rattle.circuit.proofs.Rows.{row_range}
+use Rattle.assignment.proofs.Accepted.{assignment_formed}
 use Rattle.field.proofs.PrimeField.{field_prime}
+use Rattle.qap.specs.Refusals.{ready_verdict, quotient_verdict}
 use Rattle.qap.specs.Setting.{standard}
+use Rattle.qap.proofs.Settings.{Ready, ready}
+use Rattle.qap.proofs.Standard.{quotient-words}
 use Rattle.quotient.proofs.quotient_verdict.Goals as goal
+use Rattle.quotient.proofs.quotient_verdict.Goals.{In_ok-ready_verdict}
 
-pub returns-then-ready-ne0 : goal.returns-then-ready-ne0
+given : (c : In_ok-ready_verdict) → Ready standard c.args.circuit.now c.args.values.now c.args.d
+given c = ready standard _ _ _ (record { is_zero = grind (arith, asked) })
+
+pub returns-in_err-ready_verdict : goal.returns-in_err-ready_verdict
 unfolding quotient_verdict
-returns-then-ready-ne0 c = search calls depth 16
+returns-in_err-ready_verdict c = grind (arith, asked)
 
 pub rows_of-requires : goal.rows_of-requires
-rows_of-requires c =
-    let given = ready standard _ _ _ (is_accepted c.ready_verdict-ready.ensures c.if-ready-ne0.false) in
-    (circuit-formed _ given.circuit).formed.counts
+rows_of-requires c = (circuit-formed _ (given c).circuit).formed.counts
 
 pub overflow_add-rows_of : goal.overflow_add-rows_of
 overflow_add-rows_of c =
-    let given = ready standard _ _ _ (is_accepted c.ready_verdict-ready.ensures c.if-ready-ne0.false) in
-    omega (arith, (row_range (circuit-formed _ given.circuit).formed).at_most, c.rows_of.ensures)
+    omega (arith, (row_range (circuit-formed _ (given (goal.at.overflow_add-rows_of c).In_ok-ready_verdict).circuit).formed).at_most, c.rows_of.ensures)
 
-pub returns-then-sized-ne0 : goal.returns-then-sized-ne0
+pub returns-in_err-length_verdict : goal.returns-in_err-length_verdict
 unfolding quotient_verdict
-returns-then-sized-ne0 c =
-    let sized = rw c.rows_of.ensures at c.length_verdict-sized.ensures in
-    rw (quotient-words p _) (search calls depth 16)
+returns-in_err-length_verdict c = rw (quotient-words _ _) (grind (arith, asked))
 
 pub rows_verdict-requires : goal.rows_verdict-requires
 rows_verdict-requires c =
-    let given = ready standard _ _ _ (is_accepted c.ready_verdict-ready.ensures c.if-ready-ne0.false) in
-    ((circuit-formed _ given.circuit).formed, assignment_formed field_prime _ _ given.assignment)
+    let here = given (goal.at.rows_verdict-requires c).In_ok-ready_verdict in
+    ((circuit-formed _ here.circuit).formed, assignment_formed field_prime _ _ here.assignment)
 
 pub returns : goal.returns
 unfolding quotient_verdict
-returns c =
-    let sized = rw c.rows_of.ensures at c.length_verdict-sized.ensures in
-    rw (quotient-words p _) (search calls depth 16)
+returns c = rw (quotient-words _ _) (grind (arith, asked))

@@ -11,4 +11,4 @@ pub fill_target-requires : goal.fill_target-requires
 fill_target-requires c = record { is_zero = grind (arith, asked) }
 
 pub returns : goal.returns
-returns c = filled-done _ _ _ (c.in_ok-target_verdict.ensures tt) c.fill_target.ensures
+returns c = filled-done _ _ _ (grind (arith, asked)) c.fill_target.ensures

@@ -1,42 +1,35 @@
 -- As for one column, without its number; the product of two counts is small.
-use Prim.Native.Nat.{ℕ}
-use mathlib.Core.List.{List}
-use mathlib.Core.Path.{◌≡◌}
 use native.Mathlib.Nat.{mul-le-mul}
 use native.Mathlib.Omega.{arith}
-use Rattle.outcome.specs.declared.Outcome.{Outcome}
-use Rattle.outcome.proofs.Chain.{chained, called, called-refused}
-use Rattle.outcome.proofs.Verdict.{is_accepted}
+use Rattle.outcome.proofs.Asked.{asked}
 use Rattle.field.specs.Field.{p}
-use Rattle.circuit.specs.Reader.{circuit_verdict}
 use Rattle.circuit.specs.WellFormed.{Formed}
-use Rattle.circuit.proofs.Formed.{circuit-formed}
+use Rattle.circuit.proofs.Formed.{formed_behind}
 use Rattle.circuit.proofs.Rows.{row_range}
 use Rattle.qap.specs.Refusals.{columns_verdict}
 use Rattle.qap.proofs.Standard.{count-points}
 use Rattle.columns.proofs.matrix.columns_verdict.Goals as goal
+use Rattle.columns.proofs.matrix.columns_verdict.Goals.{In_ok-matrix_verdict}
 
-formed : {o : Outcome} {c : List ℕ} → o ≡ circuit_verdict p c → o.number ≡ 0 → Formed p c
-formed e h = (circuit-formed _ (is_accepted e h)).formed
+formed : (c : In_ok-matrix_verdict) → Formed p c.args.circuit.now
+formed c = formed_behind _ (grind (arith, asked))
 
-pub returns-then-read-ne0 : goal.returns-then-read-ne0
+pub returns-in_err-matrix_verdict : goal.returns-in_err-matrix_verdict
 unfolding columns_verdict
-returns-then-read-ne0 c = called-refused _ c.circuit_verdict-read.ensures c.if-read-ne0.true
+returns-in_err-matrix_verdict c = grind (arith, asked)
 
 pub columns_of-n-requires : goal.columns_of-n-requires
-columns_of-n-requires c = (formed c.circuit_verdict-read.ensures c.if-read-ne0.false).counts
+columns_of-n-requires c = (formed c).counts
 
 pub rows_of-m-requires : goal.rows_of-m-requires
-rows_of-m-requires c = (formed c.circuit_verdict-read.ensures c.if-read-ne0.false).counts
+rows_of-m-requires c = (formed (goal.at.rows_of-m-requires c).In_ok-matrix_verdict).counts
 
 pub overflow_mul-n : goal.overflow_mul-n
 overflow_mul-n c =
-    let accepted = formed c.circuit_verdict-read.ensures c.if-read-ne0.false in
+    let here = formed (goal.at.overflow_mul-n c).In_ok-matrix_verdict in
     rw (c.columns_of-n.ensures, c.rows_of-m.ensures)
-    (omega (arith, mul-le-mul accepted.column_count.at_most (row_range accepted).at_most))
+    (omega (arith, mul-le-mul here.column_count.at_most (row_range here).at_most))
 
 pub returns : goal.returns
 unfolding columns_verdict
-returns c =
-    rw (count-points p _) (rw (← c.columns_of-n.ensures, ← c.rows_of-m.ensures)
-    (called c.circuit_verdict-read.ensures c.if-read-ne0.false (search chained depth 16)))
+returns c = rw (count-points p _, ← c.columns_of-n.ensures, ← c.rows_of-m.ensures) (grind (arith, asked))
