@@ -66,10 +66,8 @@ fn add_entries(
     ensures { out.new ≡ entry_sums p circuit.now start values.now from to (entries circuit.now start) }
 {
     let entries = circuit[start] as usize;
-    let mut e = 0;
-    while e < entries {
+    for e in 0..entries {
         add_entry(circuit, start, e, values, from, to, out);
-        e += 1;
     }
 }
 
