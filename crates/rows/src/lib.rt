@@ -102,13 +102,11 @@ fn sums_verdict(a: &[u32], b: &[u32], c: &[u32]) -> Outcome
     requires { (length b.now ≡ length a.now) × (length c.now ≡ length a.now) }
     ensures { result ≡ sums_verdict p a.now b.now c.now }
 {
-    let mut i = 0;
-    while i < a.len() {
+    for i in 0..a.len() {
         let found = require(field::times(a[i], b[i]) == c[i], 10, i + 1);
         if found.number != 0 {
             return found;
         }
-        i += 1;
     }
     fine()
 }

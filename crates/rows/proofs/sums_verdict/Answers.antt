@@ -20,17 +20,16 @@ pub returns-then-found-ne0 : goal.returns-then-found-ne0
 unfolding sums_verdict
 returns-then-found-ne0 c =
     let row = found (goal.at.returns-then-found-ne0 c).After-require-found in
-    stop _ _ c.loop-i.invariant.passed (search rules) (is_refused row c.if-found-ne0.true) row
+    stop _ _ c.loop-i.invariant (search rules) (is_refused row c.if-found-ne0.true) row
 
 pub loop-i-preserved : goal.loop-i-preserved
 loop-i-preserved c =
     let row = found (goal.at.loop-i-preserved c).After-require-found in
-    record { passed = go_on _ _ c.loop-i.invariant.passed (search rules) (is_accepted row c.if-found-ne0.false) }
+    go_on _ _ c.loop-i.invariant (search rules) (is_accepted row c.if-found-ne0.false)
 
 pub returns : goal.returns
 unfolding sums_verdict
-returns c =
-    c.fine.ensures ∙ end _ _ c.loop-i.invariant.passed c.loop-i-test.false (λ i l. proper-require _ _ _ (lit< tt))
+returns c = c.fine.ensures ∙ end _ _ c.loop-i.invariant (search rules) (λ i l. proper-require _ _ _ (lit< tt))
 
 pub loop-i-init : goal.loop-i-init
-loop-i-init c = record { passed = begin _ _ }
+loop-i-init c = begin _ _

@@ -1,6 +1,6 @@
 -- Invariant: the rows passed hold. So a row that fails is the lowest.
 use mathlib.Core.List.{List}
-use Prim.Native.Nat.{ℕ, suc, ◌*◌, ◌-◌, ◌%◌}
+use Prim.Native.Nat.{ℕ, suc, ◌*◌, ◌%◌}
 use lib.Dec.{eqb}
 use lib.ListN.{length}
 use Rattle.outcome.specs.declared.Outcome.{Outcome}
@@ -13,11 +13,5 @@ use Rattle.rows.proofs.sums_verdict.Given as goal
 abbrev pub each : List ℕ → List ℕ → List ℕ → ℕ → Outcome
 each a b c i = require (eqb (word a i * word b i % p) (word c i)) 10 (suc i)
 
-pub record Rows (a b c : List ℕ) (i : ℕ) : Type 0 where
-  pub passed : Passed (each a b c) (length a) i
-
 abbrev pub invariant-loop-i : goal.invariant-loop-i
-invariant-loop-i l = Rows l.a l.b l.c l.i
-
-abbrev pub decreases-loop-i : goal.decreases-loop-i
-decreases-loop-i l = length l.a - l.i
+invariant-loop-i l = Passed (each l.a l.b l.c) (length l.a) l.i
