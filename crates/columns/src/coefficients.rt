@@ -25,10 +25,8 @@ fn write_entries(circuit: &[u32], start: usize, j: u32, out: &mut [u32])
     ensures { out.new ≡ listed_column circuit.now start j (entries circuit.now start) }
 {
     let count = circuit[start] as usize;
-    let mut e = 0;
-    while e < count {
+    for e in 0..count {
         write_entry(circuit, start, e, j, out);
-        e += 1;
     }
 }
 

@@ -77,8 +77,7 @@ fn write_columns(
     ensures { ColumnsFrom p circuit.now matrix first count out.new }
 {
     let m = circuit::counts::rows_of(circuit);
-    let mut t = 0;
-    while t < count {
+    for t in 0..count {
         let a = t * m;
         let e = a + m;
         write_column(
@@ -89,7 +88,6 @@ fn write_columns(
             weights,
             &mut out[a..e],
         );
-        t += 1;
     }
 }
 
