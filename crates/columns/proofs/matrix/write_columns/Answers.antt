@@ -13,9 +13,6 @@ use Rattle.columns.specs.Columns.{ColumnsRoom}
 use Rattle.columns.proofs.ColumnLaws.{WrittenUpTo, place_fits, one_more}
 use Rattle.columns.proofs.matrix.write_columns.Goals as goal
 
-pub loop-t-init : goal.loop-t-init
-loop-t-init c = record { size = c.requires.columns_room.size; column = λ k l. absurd (omega arith) }
-
 -- the place lent next
 inside : {c : List ℕ} {matrix first count m t : ℕ} {out : List ℕ} →
     WrittenUpTo p c matrix first count out t → m ≡ rows c → t < count → t * m + m ≤ length out
@@ -41,9 +38,6 @@ write_column-requires c = (
 
 pub loop-t-preserved : goal.loop-t-preserved
 loop-t-preserved c = rw c.rows_of-m.ensures (one_more c.loop-t.invariant c.loop-t-test.true c.write_column.ensures)
-
-pub returns : goal.returns
-returns c = record { size = c.loop-t.invariant.size; column = λ t l. c.loop-t.invariant.column t (omega arith) }
 
 pub overflow_mul-a : goal.overflow_mul-a
 overflow_mul-a c = omega (arith, room_end c.requires.columns_room c.loop-t.invariant c.rows_of-m.ensures c.loop-t-test.true)
