@@ -13,6 +13,9 @@ use Rattle.columns.specs.Columns.{ColumnsRoom}
 use Rattle.columns.proofs.ColumnLaws.{WrittenUpTo, place_fits, one_more}
 use Rattle.columns.proofs.matrix.write_columns.Goals as goal
 
+pub loop-t-init : goal.loop-t-init
+loop-t-init c = record { size = c.requires.columns_room.size; column = λ k l. absurd (omega arith) }
+
 -- the place lent next
 inside : {c : List ℕ} {matrix first count m t : ℕ} {out : List ℕ} →
     WrittenUpTo p c matrix first count out t → m ≡ rows c → t < count → t * m + m ≤ length out
