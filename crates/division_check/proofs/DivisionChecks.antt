@@ -6,6 +6,10 @@ use mathlib.Core.List.{List}
 use Prim.Native.Nat.{ℕ, suc, ◌≤◌}
 use native.Mathlib.Omega.{arith}
 use lib.ListN.{length}
+use lib.Dec.{eqb}
+use lib.Pointwise.{pointwise}
+use Rattle.std.proofs.lemmas.Slice.Eq.{bytes_eq-Decides}
+use Rattle.outcome.proofs.Verdict.{apart}
 use Rattle.outcome.specs.Verdict.{Accepted}
 use Rattle.algebra.specs.Polynomial.{product, reduced}
 use Rattle.algebra.specs.Prime.{FieldPrime}
@@ -25,6 +29,12 @@ use Rattle.dividend.proofs.QuotientLaws.{candidate-words, words-candidate}
 use Rattle.refusals.specs.Decides.{Decides}
 use Rattle.refusals.proofs.Deciding.{decides-other}
 use Rattle.qap.specs.Setting.{row_setting}
+
+-- what `==` says of two lists of words
+pub alike : {xs ys : List ℕ} {x : Bool} → x ≡ pointwise eqb xs ys → Decides (xs ≡ ys) x
+alike {xs} {ys} e =
+    let same = bytes_eq-Decides xs ys in
+    rw e (record { when_true = same.0; when_false = λ h k. absurd (apart (sym (same.1 k) ∙ h)) })
 
 module _ {p : ℕ} (field : FieldPrime p) (c a : List ℕ) (d : Blinders) (h : List ℕ) (accepted : Accepted (check_division_verdict (row_setting p) c a d h)) where
   pub ready : DivisionReady (row_setting p) c a d h

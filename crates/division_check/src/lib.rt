@@ -28,21 +28,6 @@ fn check_division_verdict(
     refusals::length_verdict(candidate.len(), m + 1)
 }
 
-// Two lists of as many words: the same words.
-fn same(a: &[u32], b: &[u32]) -> bool
-    requires { length a.now ≡ length b.now }
-    ensures { Decides (a.now ≡ b.now) result }
-{
-    let mut i = 0;
-    while i < a.len() {
-        if a[i] != b[i] {
-            return false;
-        }
-        i += 1;
-    }
-    true
-}
-
 // The division check's equality: the words of A'B' − C' are those of Z times the candidate.
 fn candidate_divides(circuit: &[u32], values: &[u32], d: Blinders, candidate: &[u32]) -> bool
     requires { Accepted (check_division_verdict standard circuit.now values.now d candidate.now) }
@@ -54,7 +39,7 @@ fn candidate_divides(circuit: &[u32], values: &[u32], d: Blinders, candidate: &[
     poly::target(&mut z[..end]);
     let left = dividend::dividend(circuit, values, d, m, &z[..end]);
     let right = poly::product(&z[..end], candidate);
-    same(&left, &right)
+    left == right
 }
 
 // A candidate for the quotient of the blinded polynomials.

@@ -119,13 +119,11 @@ fn full(words: &mut [u32; 3078]) {
     words[1] = 1;
     words[2] = 4;
     words[3] = 1024;
-    let mut e: usize = 0;
-    while e < 1024 {
+    for e in 0..1024 {
         let at = 4 + 3 * e;
         words[at] = (e / 4 + 1) as u32;
         words[at + 1] = (e % 4 + 1) as u32;
         words[at + 2] = 1;
-        e += 1;
     }
 }
 

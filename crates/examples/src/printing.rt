@@ -27,13 +27,11 @@ pub fn number_line(n: u32) {
 }
 
 pub fn line(words: &[u32]) {
-    let mut i = 0;
-    while i < words.len() {
+    for (i, word) in words.iter().enumerate() {
         if 0 < i {
             space();
         }
-        number(words[i]);
-        i += 1;
+        number(*word);
     }
     line_end();
 }

@@ -27,13 +27,11 @@ fn parts(circuit: &[u32], values: &[u32], sums: &mut [u32])
     let q = circuit::counts::publics_of(circuit);
     let n = circuit::counts::columns_of(circuit);
     let public = assignment::public_section(circuit, values);
-    let mut matrix = 0;
-    while matrix < 3 {
+    for matrix in 0..3 {
         rows::row_sums(circuit, matrix, public, 0, q, sums);
         line(sums);
         rows::row_sums(circuit, matrix, values, q, n, sums);
         line(sums);
-        matrix += 1;
     }
 }
 

@@ -12,7 +12,7 @@ use Rattle.qap.specs.declared.Blinders.{Blinders}
 use Rattle.qap.specs.Refusals.{check_division_verdict}
 use Rattle.qap.specs.Setting.{standard}
 use Rattle.dividend.proofs.GivenLaws.{target-made, ready-given}
-use Rattle.division_check.proofs.DivisionChecks.{ready, formed, few, candidate-size, division_decided}
+use Rattle.division_check.proofs.DivisionChecks.{ready, formed, few, candidate-size, alike, division_decided}
 use Rattle.division_check.proofs.candidate_divides.Goals as goal
 
 module _ (c a : List ℕ) (d : Blinders) (h : List ℕ) {m : ℕ} (accepted : Accepted (check_division_verdict standard c a d h)) (count : m ≡ rows c) where
@@ -50,7 +50,7 @@ returns c =
     let count = c.rows_of-m.ensures in
     let lent = z-front _ _ _ _ c.requires count c.room-z.ensures in
     let made = (back _ lent c.target.auto.z).words ∙ target-made field_prime _ count lent c.target.ensures in
-    division_decided field_prime _ _ _ _ c.requires made c.dividend-left.ensures c.product-right.ensures c.same.ensures
+    division_decided field_prime _ _ _ _ c.requires made c.dividend-left.ensures c.product-right.ensures (alike c.eq.ensures)
 
 pub overflow_add-end : goal.overflow_add-end
 overflow_add-end c = omega (arith, small _ _ _ _ c.requires c.rows_of-m.ensures)

@@ -42,9 +42,6 @@ write_column-requires c = (
 pub loop-t-preserved : goal.loop-t-preserved
 loop-t-preserved c = rw c.rows_of-m.ensures (one_more c.loop-t.invariant c.loop-t-test.true c.write_column.ensures)
 
-pub returns : goal.returns
-returns c = record { size = c.loop-t.invariant.size; column = λ t l. c.loop-t.invariant.column t (omega arith) }
-
 pub overflow_mul-a : goal.overflow_mul-a
 overflow_mul-a c = omega (arith, room_end c.requires.columns_room c.loop-t.invariant c.rows_of-m.ensures c.loop-t-test.true)
 
