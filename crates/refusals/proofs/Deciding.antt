@@ -2,7 +2,9 @@
 -- RULES 5.
 use mathlib.Core.Bool.{Bool, true, false}
 use mathlib.Core.Path.{◌≡◌, refl, sym, ◌∙◌}
-use Prim.Native.Nat.{◌<◌}
+use Prim.Native.Nat.{ℕ, ◌<◌}
+use borrow.Author.Tests.{eq-eqb, eqb-true}
+use lib.Dec.{eqb}
 use Rattle.outcome.specs.declared.Outcome.{Outcome}
 use Rattle.outcome.specs.Verdict.{Accepted, Refused, require}
 use Rattle.outcome.proofs.Verdict.{not_both, apart, passes, fails}
@@ -14,6 +16,13 @@ decides_true e = record { when_true = λ h. e; when_false = λ h k. absurd (apar
 
 pub decides_false : {Equal : Type 0} → (Equal → ⊥) → Decides Equal false
 decides_false e = record { when_true = λ h. absurd (apart (sym h)); when_false = λ h. e }
+
+-- two numbers compared, where the statement says that they are equal
+pub decides_equal : {Equal : Type 0} (x y : ℕ) → (x ≡ y → Equal) → (Equal → x ≡ y) → Decides Equal (eqb x y)
+decides_equal x y to back = record {
+  when_true = λ h. to (eqb-true x y h);
+  when_false = λ h e. apart (sym (eq-eqb x y (back e)) ∙ h);
+}
 
 -- the same answer for a statement that is true exactly where the other is
 pub decides-other : {Equal Other : Type 0} {x : Bool} → (Equal → Other) → (Other → Equal) → Decides Equal x → Decides Other x

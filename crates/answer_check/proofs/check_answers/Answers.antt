@@ -1,14 +1,14 @@
 -- Refused, or decided.
-use Rattle.outcome.proofs.Verdict.{is_accepted}
+use native.Mathlib.Omega.{arith}
+use Rattle.outcome.proofs.Asked.{asked}
 use Rattle.refusals.proofs.Deciding.{judged-refused, judged-accepted}
 use Rattle.answer_check.proofs.check_answers.Goals as goal
 
 pub answers_agree-requires : goal.answers_agree-requires
-answers_agree-requires c = is_accepted c.check_answers_verdict-verdict.ensures c.if-verdict-ne0.false
+answers_agree-requires c = record { is_zero = grind (arith, asked) }
 
-pub returns-then-verdict-ne0 : goal.returns-then-verdict-ne0
-returns-then-verdict-ne0 c = judged-refused _ c.check_answers_verdict-verdict.ensures c.if-verdict-ne0.true
+pub returns-in_err-check_answers_verdict : goal.returns-in_err-check_answers_verdict
+returns-in_err-check_answers_verdict c = judged-refused _ (grind (arith, asked)) (grind (arith, asked))
 
 pub returns : goal.returns
-returns c =
-    judged-accepted _ c.check_answers_verdict-verdict.ensures c.if-verdict-ne0.false _ c.answers_agree.ensures c.judged.ensures
+returns c = judged-accepted _ (record { is_zero = grind (arith, asked) }) c.answers_agree.ensures c.judged.ensures

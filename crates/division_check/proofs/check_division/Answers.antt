@@ -1,14 +1,14 @@
 -- Refused, or decided.
-use Rattle.outcome.proofs.Verdict.{is_accepted}
+use native.Mathlib.Omega.{arith}
+use Rattle.outcome.proofs.Asked.{asked}
 use Rattle.refusals.proofs.Deciding.{judged-refused, judged-accepted}
 use Rattle.division_check.proofs.check_division.Goals as goal
 
 pub candidate_divides-requires : goal.candidate_divides-requires
-candidate_divides-requires c = is_accepted c.check_division_verdict-verdict.ensures c.if-verdict-ne0.false
+candidate_divides-requires c = record { is_zero = grind (arith, asked) }
 
-pub returns-then-verdict-ne0 : goal.returns-then-verdict-ne0
-returns-then-verdict-ne0 c = judged-refused _ c.check_division_verdict-verdict.ensures c.if-verdict-ne0.true
+pub returns-in_err-check_division_verdict : goal.returns-in_err-check_division_verdict
+returns-in_err-check_division_verdict c = judged-refused _ (grind (arith, asked)) (grind (arith, asked))
 
 pub returns : goal.returns
-returns c =
-    judged-accepted _ c.check_division_verdict-verdict.ensures c.if-verdict-ne0.false _ c.candidate_divides.ensures c.judged.ensures
+returns c = judged-accepted _ (record { is_zero = grind (arith, asked) }) c.candidate_divides.ensures c.judged.ensures
