@@ -1,2 +1,3 @@
 pub mod FourLaws
 pub mod OneResult
+pub mod Refusing

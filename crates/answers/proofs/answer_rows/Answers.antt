@@ -6,7 +6,8 @@ use native.Mathlib.Omega.{arith}
 use Rattle.slices.specs.Zeros.{zeros}
 use Rattle.slices.proofs.Rooms.{Front, front, back}
 use Rattle.outcome.specs.Verdict.{Accepted}
-use Rattle.outcome.proofs.Verdict.{is_accepted, is_refused, accepted-both, not_both}
+use Rattle.outcome.proofs.Verdict.{accepted-both}
+use Rattle.outcome.proofs.Asked.{asked}
 use Rattle.circuit.specs.Circuit.{rows}
 use Rattle.circuit.specs.WellFormed.{Formed}
 use Rattle.circuit.proofs.Formed.{circuit-formed}
@@ -18,6 +19,7 @@ use Rattle.circuit.proofs.Rows.{row_range}
 use Rattle.field.specs.Field.{p}
 use Rattle.field.proofs.PrimeField.{field_prime}
 use Rattle.qap.specs.Setting.{standard}
+use Rattle.answers.proofs.Refusing.{rows-refused, rows_answered}
 use Rattle.answers.proofs.answer_rows.Goals as goal
 
 module _ (c a : List ℕ) (d : Blinders) (accepted : Accepted (ready_verdict standard c a d)) where
@@ -51,8 +53,8 @@ slice_bounds-sums_c-end c = (lent _ _ _ c.requires.0 c.rows_of-m.ensures c.room-
 pub slice_bounds-rows_verdict-end-3 : goal.slice_bounds-rows_verdict-end-3
 slice_bounds-rows_verdict-end-3 c = (lent _ _ _ c.requires.0 c.rows_of-m.ensures c.room-sums_c.ensures).size
 
-pub rows_verdict-hold-requires : goal.rows_verdict-hold-requires
-rows_verdict-hold-requires c =
+pub rows_verdict-requires : goal.rows_verdict-requires
+rows_verdict-requires c =
     let given = c.requires.0 in
     let counted = c.rows_of-m.ensures in
     record {
@@ -64,53 +66,41 @@ rows_verdict-hold-requires c =
       );
     }
 
-pub returns-then-hold-ne0 : goal.returns-then-hold-ne0
-returns-then-hold-ne0 c =
-    let told = c.rows_verdict-hold.ensures.outcome in
-    let refused = is_refused told c.if-hold-ne0.true in
-    record {
-      number_and_place = c.none.ensures.0 ∙ told;
-      done = λ a. absurd (not_both a refused);
-      none = λ r. c.none.ensures.1;
-    }
+pub returns-in_err-rows_verdict : goal.returns-in_err-rows_verdict
+returns-in_err-rows_verdict c =
+    rows-refused (grind (arith, asked)) (grind (arith, asked)) (grind (arith, asked))
 
 pub slice_bounds-sums_a-end-2 : goal.slice_bounds-sums_a-end-2
-slice_bounds-sums_a-end-2 c = (back _ (lent _ _ _ c.requires.0 c.rows_of-m.ensures c.room-sums_a.ensures) c.rows_verdict-hold.auto.a).fits
+slice_bounds-sums_a-end-2 c = (back _ (lent _ _ _ c.requires.0 c.rows_of-m.ensures c.room-sums_a.ensures) c.rows_verdict.auto.a).fits
 
 pub slice_bounds-four_answers-end : goal.slice_bounds-four_answers-end
-slice_bounds-four_answers-end c = (back _ (lent _ _ _ c.requires.0 c.rows_of-m.ensures c.room-sums_a.ensures) c.rows_verdict-hold.auto.a).size
+slice_bounds-four_answers-end c = (back _ (lent _ _ _ c.requires.0 c.rows_of-m.ensures c.room-sums_a.ensures) c.rows_verdict.auto.a).size
 
 pub slice_bounds-sums_b-end-2 : goal.slice_bounds-sums_b-end-2
-slice_bounds-sums_b-end-2 c = (back _ (lent _ _ _ c.requires.0 c.rows_of-m.ensures c.room-sums_b.ensures) c.rows_verdict-hold.auto.b).fits
+slice_bounds-sums_b-end-2 c = (back _ (lent _ _ _ c.requires.0 c.rows_of-m.ensures c.room-sums_b.ensures) c.rows_verdict.auto.b).fits
 
 pub slice_bounds-four_answers-end-2 : goal.slice_bounds-four_answers-end-2
-slice_bounds-four_answers-end-2 c = (back _ (lent _ _ _ c.requires.0 c.rows_of-m.ensures c.room-sums_b.ensures) c.rows_verdict-hold.auto.b).size
+slice_bounds-four_answers-end-2 c = (back _ (lent _ _ _ c.requires.0 c.rows_of-m.ensures c.room-sums_b.ensures) c.rows_verdict.auto.b).size
 
 pub slice_bounds-sums_c-end-2 : goal.slice_bounds-sums_c-end-2
-slice_bounds-sums_c-end-2 c = (back _ (lent _ _ _ c.requires.0 c.rows_of-m.ensures c.room-sums_c.ensures) c.rows_verdict-hold.auto.c).fits
+slice_bounds-sums_c-end-2 c = (back _ (lent _ _ _ c.requires.0 c.rows_of-m.ensures c.room-sums_c.ensures) c.rows_verdict.auto.c).fits
 
 pub slice_bounds-four_answers-end-3 : goal.slice_bounds-four_answers-end-3
-slice_bounds-four_answers-end-3 c = (back _ (lent _ _ _ c.requires.0 c.rows_of-m.ensures c.room-sums_c.ensures) c.rows_verdict-hold.auto.c).size
+slice_bounds-four_answers-end-3 c = (back _ (lent _ _ _ c.requires.0 c.rows_of-m.ensures c.room-sums_c.ensures) c.rows_verdict.auto.c).size
 
-pub four_answers-numbers-requires : goal.four_answers-numbers-requires
+pub four_answers-requires : goal.four_answers-requires
 unfolding answers_verdict
-four_answers-numbers-requires c =
+four_answers-requires c =
     let (given, pointed) = c.requires in
     let counted = c.rows_of-m.ensures in
-    let found = c.rows_verdict-hold.ensures in
-    let a = back _ (lent _ _ _ given counted c.room-sums_a.ensures) c.rows_verdict-hold.auto.a in
-    let b = back _ (lent _ _ _ given counted c.room-sums_b.ensures) c.rows_verdict-hold.auto.b in
-    let third = back _ (lent _ _ _ given counted c.room-sums_c.ensures) c.rows_verdict-hold.auto.c in
+    let found = c.rows_verdict.ensures in
+    let a = back _ (lent _ _ _ given counted c.room-sums_a.ensures) c.rows_verdict.auto.a in
+    let b = back _ (lent _ _ _ given counted c.room-sums_b.ensures) c.rows_verdict.auto.b in
+    let third = back _ (lent _ _ _ given counted c.room-sums_c.ensures) c.rows_verdict.auto.c in
     record {
-      accepted = accepted-both given (accepted-both pointed (is_accepted found.outcome c.if-hold-ne0.false));
+      accepted = accepted-both given (accepted-both pointed (record { is_zero = grind (arith, asked) }));
       sums = rw (a.words, b.words, third.words) found.sums;
     }
 
 pub returns : goal.returns
-returns c =
-    let told = c.rows_verdict-hold.ensures.outcome in
-    record {
-      number_and_place = told;
-      done = λ a. c.four_answers-numbers.ensures;
-      none = λ r. absurd (not_both (is_accepted told c.if-hold-ne0.false) r);
-    }
+returns c = rows_answered (grind (arith, asked)) c.four_answers.ensures
