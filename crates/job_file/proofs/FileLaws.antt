@@ -1,15 +1,19 @@
 -- What an accepted file has: each check that it passed, where circuit and assignment end, and that the calls on them would accept too.
 use mathlib.Core.List.{List}
-use mathlib.Core.Logic.{⊎_elim}
-use mathlib.Core.Path.{◌≡◌, refl, sym, ◌∙◌}
+use mathlib.Core.Path.{◌≡◌, refl, sym, ◌∙◌, ap}
+use Rattle.std.specs.Prelude.{Result, Ok, Err}
+use Rattle.outcome.specs.declared.Outcome.{Outcome}
+use Rattle.outcome.specs.declared.Refusal.{Refusal}
+use Rattle.outcome.proofs.Asked.{positive}
+use Rattle.outcome.proofs.Same.{same_refusal}
 use Prim.Native.Nat.{ℕ, ◌+◌, ◌*◌, ◌-◌, ◌/◌, ◌%◌, ◌≤◌}
 use native.Mathlib.Omega.{arith}
 use borrow.Author.Tests.{leb-true, eqb-true}
 use lib.Dec.{lit<}
 use lib.ListN.{length, take, drop, length-drop}
 use lib.Seq.{take_all, length-take-le}
-use Rattle.outcome.specs.Verdict.{Accepted, Refused, ◌and_then◌}
-use Rattle.outcome.proofs.Verdict.{accepted_or_refused, accepted-both, accepted-parts, require-accepted, taken}
+use Rattle.outcome.specs.Verdict.{fine, told, Accepted, ◌and_then◌}
+use Rattle.outcome.proofs.Verdict.{accepted-both, accepted-parts, require-accepted, taken}
 use Rattle.circuit.specs.Circuit.{columns, ending, leading}
 use Rattle.circuit.specs.Reader.{prefix_verdict, circuit_verdict}
 use Rattle.circuit.proofs.Formed.{prefix_formed}
@@ -90,21 +94,24 @@ job_answers w h =
     let parts = accepted-parts h in
     accepted-both (file_answers_ready w parts.0) (accepted-both (file_ready w parts.0).point parts.1)
 
--- any two jobs that reading admits are equal
-pub read_determined : {w : List ℕ} {i j : Job} → Read w i → Read w j → i ≡ j
-read_determined {w} {i} {j} f g = ⊎_elim
-    (λ (h : Accepted (file_verdict w)). same (f.split h) (g.split h))
-    (λ (h : Refused (file_verdict w)). f.none h ∙ sym (g.none h))
-    (accepted_or_refused (file_verdict w))
-  where
-    same : Split w i → Split w j → i ≡ j
-    same p q =
-        let number = f.number_and_place ∙ sym g.number_and_place in
-        let circuit = p.circuit ∙ sym q.circuit in
-        let assignment = p.assignment ∙ sym q.assignment in
-        let blinders = p.blinders ∙ sym q.blinders in
-        let point = p.point ∙ sym q.point in
-        λ t. record { outcome = number t; circuit = circuit t; assignment = assignment t; d = blinders t; s = point t }
+same_job : {w : List ℕ} {i j : Job} → Split w i → Split w j → i ≡ j
+same_job f g =
+    let circuit = f.circuit ∙ sym g.circuit in
+    let assignment = f.assignment ∙ sym g.assignment in
+    let blinders = f.blinders ∙ sym g.blinders in
+    let point = f.point ∙ sym g.point in
+    λ t. record { circuit = circuit t; assignment = assignment t; d = blinders t; s = point t }
+
+not_fine : (r : Refusal) → fine ≡ told r → ⊥
+not_fine r e = omega (arith, positive r, ap (λ (o : Outcome). o.number) e)
+
+-- any two results that reading admits are equal
+pub read_determined : {w : List ℕ} {i j : Result Job Refusal} → Read w i → Read w j → i ≡ j
+read_determined {i = Ok i} {j = Ok j} f g = ap {B = Result Job Refusal} Ok (same_job f.split g.split)
+read_determined {i = Err i} {j = Err j} f g =
+    ap {B = Result Job Refusal} Err (same_refusal i j (f.number_and_place ∙ sym g.number_and_place))
+read_determined {i = Ok i} {j = Err j} f g = absurd (not_fine j (f.number_and_place ∙ sym g.number_and_place))
+read_determined {i = Err i} {j = Ok j} f g = absurd (not_fine i (g.number_and_place ∙ sym f.number_and_place))
 
 -- where circuit and assignment end
 pub record Ends (w : List ℕ) : Type 0 where

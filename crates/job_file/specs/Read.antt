@@ -1,7 +1,7 @@
--- What reading a job file's words gives: the verdict, and where it is 0, where circuit and assignment end, the blinders and the point.
-use Rattle.std.specs.Prelude.{List, ◌≡◌, ℕ, ◌+◌}
-use Rattle.outcome.specs.declared.Outcome.{Outcome}
-use Rattle.outcome.specs.Verdict.{Accepted, Refused}
+-- What reading a job file's words gives: the verdict, and where it accepts, where circuit and assignment end, the blinders and the point.
+use Rattle.std.specs.Prelude.{Result, IfOk, List, ◌≡◌, ℕ, ◌+◌}
+use Rattle.outcome.specs.declared.Refusal.{Refusal}
+use Rattle.outcome.specs.Verdict.{outcome_of}
 use Rattle.circuit.specs.Circuit.{columns, ending, leading}
 use Rattle.job_file.specs.File.{blinders_of, point_of, file_verdict}
 use Rattle.job_file.specs.declared.Job.{Job}
@@ -13,11 +13,7 @@ pub record Split (w : List ℕ) (j : Job) : Type 0 where
   pub blinders : j.d ≡ blinders_of w
   pub point : j.s ≡ point_of w
 
--- a refusal alone
-abbrev pub refused : Outcome → Job
-refused o = record { outcome = o; circuit = 0; assignment = 0; d = record { first = 0; second = 0; third = 0 }; s = 0 }
-
-pub record Read (w : List ℕ) (j : Job) : Type 0 where
-  pub number_and_place : j.outcome ≡ file_verdict w
-  pub split : Accepted (file_verdict w) → Split w j
-  pub none : Refused (file_verdict w) → j ≡ refused (file_verdict w)
+-- a refusal holds no job
+pub record Read (w : List ℕ) (r : Result Job Refusal) : Type 0 where
+  pub number_and_place : outcome_of r ≡ file_verdict w
+  pub split : IfOk r (Split w)

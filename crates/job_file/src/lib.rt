@@ -2,6 +2,7 @@
 #![tactic(auto)]
 
 ghost use Rattle.std.specs.Prelude.{◌≡◌, length};
+ghost use Rattle.outcome.specs.Verdict.{outcome_of};
 ghost use Rattle.circuit.specs.WellFormed.{Formed};
 ghost use Rattle.field.specs.Field.{p};
 ghost use Rattle.job_file.specs.File.{size_verdict, trailer_verdict};
@@ -10,14 +11,14 @@ ghost use Rattle.job_file.specs.Read.{Read};
 
 use assignment::assignment_words_verdict;
 use circuit::limits::MATRICES;
-use outcome::{Outcome, require};
+use outcome::{Refusal, require};
 use qap::Blinders;
 use refusals::{blinders_verdict, point_verdict};
 
-// The words [..circuit] are the circuit, [circuit..assignment] the assignment.
+// The words [..circuit] are the circuit, [circuit..assignment] the assignment. They are ends and no parts, since a part has an
+// address: `FileLaws.read_determined` says that two jobs read from the same words are equal.
 #[derive(Clone, Copy)]
 pub struct Job {
-    pub outcome: Outcome,
     pub circuit: usize,
     pub assignment: usize,
     pub d: Blinders,
@@ -30,21 +31,22 @@ pub const MOST_BYTES: usize = 37944;
 pub const MOST_WORDS: usize = 9486;
 
 // 14 of a number of bytes.
-pub fn size_verdict(size: usize) -> Outcome
-    ensures { result ≡ size_verdict size }
+#[tactic(auto, using(outcome::proofs::Asked::asked), unfolding(crate::specs::File::size_verdict))]
+pub fn size_verdict(size: usize) -> Result<(), Refusal>
+    ensures { outcome_of result ≡ size_verdict size }
 {
-    require(size <= MOST_BYTES, 14, 0).and_then(require(size % 4 == 0, 14, 0))
+    require(size <= MOST_BYTES, Refusal::Bytes)?;
+    require(size % 4 == 0, Refusal::Bytes)
 }
 
 // 14 of what remains after the assignment.
-fn trailer_verdict(t: &[u32]) -> Outcome
-    ensures { result ≡ trailer_verdict t.now }
+#[tactic(auto, using(outcome::proofs::Asked::asked), unfolding(crate::specs::File::trailer_verdict))]
+fn trailer_verdict(t: &[u32]) -> Result<(), Refusal>
+    ensures { outcome_of result ≡ trailer_verdict t.now }
 {
-    let sized = require(t.len() == 6, 14, 0);
-    if sized.number != 0 {
-        return sized;
-    }
-    require(t[0] == 3, 14, 0).and_then(require(t[4] == 1, 14, 0))
+    require(t.len() == 6, Refusal::Bytes)?;
+    require(t[0] == 3, Refusal::Bytes)?;
+    require(t[4] == 1, Refusal::Bytes)
 }
 
 // The three blinders among the words that remain.
@@ -60,65 +62,39 @@ fn blinders_in(t: &[u32]) -> Blinders
 }
 
 // The assignment, then what remains after it.
-fn given_verdict(circuit: &[u32], values: &[u32], t: &[u32]) -> Outcome
+#[tactic(auto, using(outcome::proofs::Asked::asked), unfolding(crate::specs::Given::given_verdict))]
+fn given_verdict(circuit: &[u32], values: &[u32], t: &[u32]) -> Result<(), Refusal>
     requires { Formed p circuit.now }
-    ensures { result ≡ given_verdict circuit.now values.now t.now }
+    ensures { outcome_of result ≡ given_verdict circuit.now values.now t.now }
 {
-    let shaped = assignment_words_verdict(circuit, values).and_then(trailer_verdict(t));
-    if shaped.number != 0 {
-        return shaped;
-    }
-    blinders_verdict(blinders_in(t)).and_then(point_verdict(circuit, t[5]))
+    assignment_words_verdict(circuit, values)?;
+    trailer_verdict(t)?;
+    blinders_verdict(blinders_in(t))?;
+    point_verdict(circuit, t[5])
 }
 
 // All that follows the circuit.
-fn rest_verdict(circuit: &[u32], rest: &[u32]) -> Outcome
+fn rest_verdict(circuit: &[u32], rest: &[u32]) -> Result<(), Refusal>
     requires { Formed p circuit.now }
-    ensures { result ≡ rest_verdict circuit.now rest.now }
+    ensures { outcome_of result ≡ rest_verdict circuit.now rest.now }
 {
     let size = circuit::counts::columns_of(circuit) + 2;
-    let enough = require(size <= rest.len(), 6, 0);
-    if enough.number != 0 {
-        return enough;
-    }
+    require(size <= rest.len(), Refusal::Shape)?;
     given_verdict(circuit, &rest[..size], &rest[size..])
 }
 
-fn refused(outcome: Outcome) -> Job
-    ensures { result ≡ Rattle.job_file.specs.Read.refused outcome }
-{
-    Job {
-        outcome: outcome,
-        circuit: 0,
-        assignment: 0,
-        d: Blinders {
-            first: 0,
-            second: 0,
-            third: 0,
-        },
-        s: 0,
-    }
-}
-
-// The whole file by all numbers but 10, which the caller asks for. Words that are refused are not split.
-pub fn read(words: &[u32]) -> Job
+// The whole file by all numbers but 10, which the caller asks for.
+pub fn read(words: &[u32]) -> Result<Job, Refusal>
     ensures { Read words.now result }
 {
-    let begun = reader::prefix_verdict(words);
-    if begun.number != 0 {
-        return refused(begun);
-    }
+    reader::prefix_verdict(words)?;
     let end = reader::section_start(words, MATRICES);
-    let found = rest_verdict(&words[..end], &words[end..]);
-    if found.number != 0 {
-        return refused(found);
-    }
+    rest_verdict(&words[..end], &words[end..])?;
     let last = end + circuit::counts::columns_of(words) + 2;
-    Job {
-        outcome: found,
+    Ok(Job {
         circuit: end,
         assignment: last,
         d: blinders_in(&words[last..]),
         s: words[last + 5],
-    }
+    })
 }

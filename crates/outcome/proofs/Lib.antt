@@ -1,5 +1,6 @@
 pub mod Verdict
 pub mod Chain
 pub mod Asked
+pub mod Same
 pub mod Scan
 pub mod Near
