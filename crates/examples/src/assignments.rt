@@ -63,11 +63,9 @@ fn all_public(private_count: u32) {
 
 // The verdict over a public section alone, which is asked beside an accepted circuit only.
 fn public(circuit: &[u32], words: &[u32]) {
-    let read = reader::circuit_verdict(circuit);
-    if read.number != 0 {
-        return;
+    if reader::circuit_verdict(circuit).is_ok() {
+        outcome_line(assignment::public_words_verdict(circuit, words));
     }
-    outcome_line(assignment::public_words_verdict(circuit, words));
 }
 
 fn public_to_k(words: &[u32]) {

@@ -17,6 +17,14 @@ const BLINDERS: Blinders = Blinders {
     third: 3,
 };
 
+// What is printed beside a refusal.
+const NO_ANSWERS: FourAnswers = FourAnswers {
+    first: 0,
+    second: 0,
+    third: 0,
+    fourth: 0,
+};
+
 fn target(m: u32, out: &mut [u32]) {
     let o = target::target(m, out);
     call_line(o, out);
@@ -59,8 +67,8 @@ fn one_row(private: u32) {
 
 fn answers(s: u32) {
     let found = answers::answers(&K, &ASSIGNMENT, BLINDERS, s);
-    let r = found.numbers;
-    call_line(found.outcome, &[r.first, r.second, r.third, r.fourth]);
+    let r = found.unwrap_or(NO_ANSWERS);
+    call_line(found.map(|_| ()), &[r.first, r.second, r.third, r.fourth]);
 }
 
 // A candidate quotient that ends in `last`.

@@ -1,5 +1,5 @@
 // Headings, and lines of words in decimals with a space between.
-use outcome::Outcome;
+use outcome::{Outcome, Refusal};
 
 // The descriptor of standard output.
 const STDOUT: i32 = 1;
@@ -42,14 +42,14 @@ fn number_and_place(o: Outcome) {
     io::print_decimal(STDOUT, o.place as u64);
 }
 
-pub fn outcome_line(o: Outcome) {
-    number_and_place(o);
+pub fn outcome_line(found: Result<(), Refusal>) {
+    number_and_place(found.into());
     line_end();
 }
 
 // What a call said, and the words that it wrote or gave back.
-pub fn call_line(o: Outcome, words: &[u32]) {
-    number_and_place(o);
+pub fn call_line(found: Result<(), Refusal>, words: &[u32]) {
+    number_and_place(found.into());
     if 0 < words.len() {
         space();
     }

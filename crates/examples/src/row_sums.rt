@@ -39,12 +39,10 @@ fn parts(circuit: &[u32], values: &[u32], sums: &mut [u32])
 fn sums(circuit: &[u32], values: &[u32], a: &mut [u32], b: &mut [u32], c: &mut [u32])
     requires { (length a.old ≡ rows circuit.now) × (length b.old ≡ rows circuit.now) × (length c.old ≡ rows circuit.now) }
 {
-    let found = assignment::assignment_verdict(circuit, values);
-    if found.number != 0 {
-        return;
+    if assignment::assignment_verdict(circuit, values).is_ok() {
+        whole(circuit, values, a, b, c);
+        parts(circuit, values, a);
     }
-    whole(circuit, values, a, b, c);
-    parts(circuit, values, a);
 }
 
 // K with a public value and two private ones.
