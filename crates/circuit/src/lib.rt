@@ -1,5 +1,6 @@
-// Circuits: what their words mean (RULES 2), their limits and their counts; crate reader judges them.
+// Circuits: what their words mean (RULES 2), their limits, counts and entries; crate reader judges them.
 #![tactic(auto)]
 
 pub mod counts;
+pub mod entry;
 pub mod limits;

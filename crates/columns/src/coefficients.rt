@@ -11,12 +11,12 @@ fn write_entry(circuit: &[u32], start: usize, e: usize, j: u32, out: &mut [u32])
     requires out_value { out.old ≡ listed_column circuit.now start j e }
     ensures { out.new ≡ listed_column circuit.now start j (e + 1) }
 {
-    let at = start + 1 + 3 * e;
-    if circuit[at + 1] != j {
+    let entry = circuit::entry::entry_of(circuit, start, e);
+    if entry.column != j {
         return;
     }
-    let row = circuit[at] as usize - 1;
-    out[row] = circuit[at + 2];
+    let row = entry.row as usize - 1;
+    out[row] = entry.value;
 }
 
 // All entries of the section, into words that are 0.

@@ -5,30 +5,24 @@ ghost use Rattle.circuit.specs.Circuit.{entry_at};
 ghost use Rattle.circuit.specs.Reader.{ranges_verdict, entry_verdict};
 ghost use Rattle.field.specs.Field.{p};
 
+use circuit::entry::{Entry, entry_of};
 use outcome::{Refusal, require, within};
 
 // Row and column by 3, then the value by 4.
 #[tactic(auto, using(outcome::proofs::Asked::asked), unfolding(circuit::specs::Reader::ranges_verdict))]
-fn ranges_verdict(
-    m: u32,
-    n: u32,
-    row: u32,
-    column: u32,
-    value: u32,
-    at: usize,
-) -> Result<(), Refusal>
-    ensures { outcome_of result ≡ ranges_verdict p m n row column value at }
+fn ranges_verdict(m: u32, n: u32, entry: Entry, at: usize) -> Result<(), Refusal>
+    ensures { outcome_of result ≡ ranges_verdict p m n entry.row entry.column entry.value at }
 {
-    require(within(1, row, m), Refusal::Position(at))?;
-    require(within(1, column, n), Refusal::Position(at))?;
-    require(within(1, value, field::MINUS_ONE), Refusal::Value(at))
+    require(within(1, entry.row, m), Refusal::Position(at))?;
+    require(within(1, entry.column, n), Refusal::Position(at))?;
+    require(within(1, entry.value, field::MINUS_ONE), Refusal::Value(at))
 }
 
 // By row, then column.
-fn above(row: u32, column: u32, row_before: u32, column_before: u32) -> bool
-    ensures { result ≡ Rattle.circuit.specs.Reader.above row column row_before column_before }
+fn above(entry: Entry, before: Entry) -> bool
+    ensures { result ≡ Rattle.circuit.specs.Reader.above entry.row entry.column before.row before.column }
 {
-    (row_before, column_before) < (row, column)
+    (before.row, before.column) < (entry.row, entry.column)
 }
 
 // Entry e of the section whose count stands at `start` is above the one before it.
@@ -36,12 +30,7 @@ fn ascends(words: &[u32], start: usize, e: usize) -> bool
     requires { entry_at start e + 3 ≤ length words.now }
     ensures { result ≡ Rattle.circuit.specs.Reader.ascends words.now start e }
 {
-    if e == 0 {
-        return true;
-    }
-    let at = start + 1 + 3 * e;
-    let before = at - 3;
-    above(words[at], words[at + 1], words[before], words[before + 1])
+    e == 0 || above(entry_of(words, start, e), entry_of(words, start, e - 1))
 }
 
 // The same entry by 3, 4, 5.
@@ -51,13 +40,6 @@ pub fn entry_verdict(words: &[u32], start: usize, e: usize) -> Result<(), Refusa
     ensures { outcome_of result ≡ entry_verdict p words.now start e }
 {
     let at = start + 1 + 3 * e;
-    ranges_verdict(
-        words[0],
-        words[2],
-        words[at],
-        words[at + 1],
-        words[at + 2],
-        at,
-    )?;
+    ranges_verdict(words[0], words[2], entry_of(words, start, e), at)?;
     require(ascends(words, start, e), Refusal::Order(at))
 }

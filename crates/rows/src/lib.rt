@@ -13,6 +13,7 @@ ghost use Rattle.field.specs.Field.{p};
 ghost use Rattle.rows.specs.Rows.{row_sums};
 ghost use Rattle.rows.specs.Sums.{Span, entry_sums, with_entry, sums_verdict, RowsRead};
 
+use circuit::entry::entry_of;
 use outcome::{Refusal, require};
 
 // The index of a column's value in an assignment.
@@ -40,17 +41,14 @@ fn add_entry(
     requires span { Span circuit.now values.now from to × (length out.old ≡ rows circuit.now) }
     ensures { out.new ≡ with_entry p circuit.now start values.now from to e out.old }
 {
-    let at = start + 1 + 3 * e;
-    let column = circuit[at + 1] as usize;
-    if column <= from {
+    let entry = entry_of(circuit, start, e);
+    let column = entry.column as usize;
+    if column <= from || to < column {
         return;
     }
-    if to < column {
-        return;
-    }
-    let row = circuit[at] as usize - 1;
+    let row = entry.row as usize - 1;
     let value = assigned_at(circuit, column);
-    out[row] = field::add_scaled(out[row], values[value], circuit[at + 2]);
+    out[row] = field::add_scaled(out[row], values[value], entry.value);
 }
 
 // All entries of the section, added to words that are 0.

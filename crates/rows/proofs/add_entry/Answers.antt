@@ -1,5 +1,6 @@
 -- Where the column is left out nothing changes; else its row's word gets the product added.
 use mathlib.Core.List.{List}
+use mathlib.Core.Logic.{◌⊎◌, ⊎_elim}
 use mathlib.Core.Path.{◌≡◌, sym}
 use Prim.Native.Nat.{ℕ, suc, ◌+◌, ◌*◌, ◌-◌, ◌%◌, ◌≤◌, ◌<◌}
 use native.Mathlib.Omega.{arith}
@@ -17,13 +18,13 @@ use Rattle.rows.proofs.add_entry.Goals as goal
 use Rattle.rows.proofs.add_entry.Goals.{After-assigned_at-value}
 
 module _ (c : List ℕ) (s : ℕ) (a : List ℕ) (from to e : ℕ) (xs : List ℕ) where
-  too_low : column_of c s e ≤ from → with_entry p c s a from to e xs ≡ xs
+  left_out : (column_of c s e ≤ from) ⊎ ((from < column_of c s e) × (to < column_of c s e)) → with_entry p c s a from to e xs ≡ xs
   unfolding with_entry
-  too_low h = rw (with_entry, lt-leb (suc from) (column_of c s e) (omega arith))
-
-  too_high : from < column_of c s e → to < column_of c s e → with_entry p c s a from to e xs ≡ xs
-  unfolding with_entry
-  too_high h k = rw (with_entry, le-leb (suc from) (column_of c s e) h, lt-leb (column_of c s e) to k)
+  left_out h = ⊎_elim
+      (λ (low : column_of c s e ≤ from). rw (with_entry, lt-leb (suc from) (column_of c s e) (omega arith)))
+      (λ (high : (from < column_of c s e) × (to < column_of c s e)).
+      rw (with_entry, le-leb (suc from) (column_of c s e) high.0, lt-leb (column_of c s e) to high.1))
+      h
 
   counted : from < column_of c s e → column_of c s e ≤ to →
       with_entry p c s a from to e xs
@@ -32,17 +33,14 @@ module _ (c : List ℕ) (s : ℕ) (a : List ℕ) (from to e : ℕ) (xs : List �
   counted h k = rw (with_entry, le-leb (suc from) (column_of c s e) h, le-leb (column_of c s e) to k)
 
 pub returns-then-column-from : goal.returns-then-column-from
-returns-then-column-from c = sym (too_low _ _ _ _ _ _ _ (search rules))
-
-pub returns-then-to-column : goal.returns-then-to-column
-returns-then-to-column c = sym (too_high _ _ _ _ _ _ _ (search rules) (search rules))
+returns-then-column-from c = sym (left_out _ _ _ _ _ _ _ (rw c.entry_of-entry.ensures.column at c.then-column-from.either))
 
 -- the value's index is inside: its column is at most `to`
 inside : (c : After-assigned_at-value) → c.assigned_at-value.result < length c.args.values.now
 inside c =
     let column = column_of c.args.circuit.now c.args.start c.args.e in
-    omega
-    (arith, c.assigned_at-value.ensures, assigned_order c.args.circuit.now column c.args.to (search rules), c.requires.span.0.given)
+    let at = rw c.entry_of-entry.ensures.column at c.assigned_at-value.ensures in
+    omega (arith, at, assigned_order c.args.circuit.now column c.args.to (search rules), c.requires.span.0.given)
 
 -- and so is the row
 row : (c : After-assigned_at-value) →
@@ -51,7 +49,8 @@ row c = row_inside c.requires.formed.1
 
 pub returns : goal.returns
 returns c =
-    rw (c.add_scaled.ensures, c.assigned_at-value.ensures)
+    let entry = c.entry_of-entry.ensures in
+    rw (c.add_scaled.ensures, c.assigned_at-value.ensures, entry.row, entry.column, entry.value)
     (sym (counted c.args.circuit.now c.args.start c.args.values.now c.args.from c.args.to c.args.e
     c.args.out.now (search rules) (search rules)))
 

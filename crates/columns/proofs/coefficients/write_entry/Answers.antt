@@ -11,8 +11,8 @@ use Rattle.columns.specs.Coefficients.{listed_column}
 use Rattle.columns.proofs.CoefficientLaws.{length-listed, other-column, own_column}
 use Rattle.columns.proofs.coefficients.write_entry.Goals as goal
 
-pub returns-then-circuit-at : goal.returns-then-circuit-at
-returns-then-circuit-at c = c.requires.out_value ∙ other-column _ _ _ _ c.if-circuit-at.true
+pub returns-then-entry-j : goal.returns-then-entry-j
+returns-then-entry-j c = c.requires.out_value ∙ other-column _ _ _ _ (rw c.entry_of-entry.ensures.column at c.if-entry-j.true)
 
 -- the row's word is there
 row : {p start e : ℕ} {c out : List ℕ} (j : ℕ) →
@@ -25,7 +25,10 @@ pub offset_bounds-out-row : goal.offset_bounds-out-row
 offset_bounds-out-row c = omega (arith, row _ c.requires.entry_formed.0 c.requires.out_value)
 
 pub bounds-out-row : goal.bounds-out-row
-bounds-out-row c = row _ c.requires.entry_formed.0 c.requires.out_value
+bounds-out-row c = rw c.entry_of-entry.ensures.row (row _ c.requires.entry_formed.0 c.requires.out_value)
 
 pub returns : goal.returns
-returns c = rw c.requires.out_value (own_column _ _ _ _ (row_inside c.requires.entry_formed.0) c.if-circuit-at.false)
+returns c =
+    let entry = c.entry_of-entry.ensures in
+    rw (c.requires.out_value, entry.row, entry.value)
+    (own_column _ _ _ _ (row_inside c.requires.entry_formed.0) (rw entry.column at c.if-entry-j.false))
