@@ -1,5 +1,5 @@
 -- How each layer meets what is printed: a refusal's line, the five lines, and what accepted answers give the other calls.
-use mathlib.Core.List.{List, [], ◌∷◌}
+use mathlib.Core.List.{List}
 use mathlib.Core.Path.{◌≡◌, refl, sym, ◌∙◌, ap}
 use Prim.Native.Nat.{ℕ, ◌+◌, ◌≤◌, ◌<◌}
 use native.Mathlib.Omega.{arith}
@@ -8,17 +8,15 @@ use borrow.Author.Tests.{eq-eqb}
 use lib.ListN.{length}
 use Rattle.outcome.specs.declared.Outcome.{Outcome}
 use Rattle.outcome.specs.declared.Refusal.{Refusal}
-use Rattle.outcome.specs.Verdict.{told, outcome_of, Accepted, Refused}
+use Rattle.outcome.specs.Verdict.{outcome_of, Accepted}
 use Rattle.outcome.proofs.Asked.{positive}
-use Rattle.outcome.proofs.Verdict.{accepted-both, accepted-fine, accepted-parts, accepted-require, goes_on, not_both, within_true}
-use Rattle.text.specs.Text.{line}
+use Rattle.outcome.proofs.Verdict.{accepted-both, accepted-parts, accepted-require, goes_on, within_true}
 use Rattle.circuit.specs.Circuit.{rows, leading}
 use Rattle.circuit.specs.WellFormed.{Formed}
 use Rattle.circuit.proofs.Formed.{circuit-formed}
 use Rattle.assignment.specs.Assignment.{public_section}
 use Rattle.qap.specs.declared.Blinders.{Blinders}
 use Rattle.qap.specs.declared.FourAnswers.{FourAnswers}
-use Rattle.qap.specs.Polynomials.{target_of}
 use Rattle.qap.specs.Answers.{IsAnswers}
 use Rattle.qap.specs.Calls.{TargetCall, QuotientCall, CheckAnswersCall}
 use Rattle.qap.specs.Refusals.{length_verdict, target_verdict, quotient_verdict, answers_verdict}
@@ -30,7 +28,7 @@ use Rattle.field.specs.Field.{p}
 use Rattle.qap.specs.Setting.{standard}
 use Rattle.algebra.proofs.Consecutive.{length-row_points}
 use Rattle.qap.proofs.Standard.{quotient-words}
-use Rattle.printed_job.specs.Lines.{five_lines, FiveOf, Reports}
+use Rattle.printed_job.specs.Lines.{five_lines, FiveOf}
 use Rattle.printed_job.specs.TextUpTo.{TextUpTo, Written}
 
 -- refused, with nothing written
@@ -38,27 +36,6 @@ pub written-refused : {verdict : Outcome} (Done : List ℕ → Type 0) {text : L
     Written verdict Done text text r
 written-refused Done {r = Ok x} e l = absurd (omega (arith, ap (λ (o : Outcome). o.number) e))
 written-refused Done {r = Err x} e l = record { number_and_place = e; done = tt; kept = refl }
-
--- what is printed in the end: the text that is there, or the refusal's line in its place
-module _ {verdict : Outcome} {Done : List ℕ → Type 0} {before bytes : List ℕ} where
-  pub reports-done : {end : ℕ} → Written verdict Done before bytes (Ok end) → TextUpTo (Reports verdict Done) before bytes end
-  reports-done w =
-      let accepted : Accepted verdict = rw (← w.number_and_place) accepted-fine in
-      record {
-        says = record { done = λ a. w.done.says; refused = λ r. absurd (not_both accepted r) };
-        rest = w.done.rest;
-        within = w.done.within;
-      }
-
-  pub reports-refused : {after : List ℕ} {end : ℕ} (r : Refusal) → Written verdict Done before bytes (Err r) →
-      TextUpTo (λ t. t ≡ line ((told r).number ∷ (told r).place ∷ [])) bytes after end → TextUpTo (Reports verdict Done) before after end
-  reports-refused r w printed =
-      let refused : Refused verdict = rw (← w.number_and_place) (record { is_positive = positive r }) in
-      record {
-        says = record { done = λ a. absurd (not_both a refused); refused = λ _. rw (← w.number_and_place) printed.says };
-        rest = rw w.kept at printed.rest;
-        within = printed.within;
-      }
 
 -- past the file's verdict the call for answers decides: only 10 is left
 pub file_goes_on : (w : List ℕ) → Accepted (file_verdict w) →
