@@ -2,15 +2,17 @@
 #![tactic(auto)]
 
 ghost use Rattle.std.specs.Prelude.{[], ◌∷◌, ◌≡◌, ◌≤◌, length};
-ghost use Rattle.outcome.specs.Verdict.{Accepted};
+ghost use Rattle.outcome.specs.Verdict.{told, Accepted};
+ghost use Rattle.packing.specs.Packing.{unpacked};
 ghost use Rattle.text.specs.Text.{line};
 ghost use Rattle.qap.specs.Answers.{IsAnswers};
 ghost use Rattle.qap.specs.Refusals.{answers_verdict};
 ghost use Rattle.qap.specs.Setting.{standard};
-ghost use Rattle.printed_job.specs.Lines.{most_coefficients, five_lines, FiveOf, PrintsParts, PrintsWords, Prints};
-ghost use Rattle.printed_job.specs.TextUpTo.{TextUpTo, text_room, blank};
+ghost use Rattle.job_file.specs.File.{job_verdict};
+ghost use Rattle.printed_job.specs.Lines.{most_coefficients, program_verdict, five_lines, FiveOf, FiveLines, Prints};
+ghost use Rattle.printed_job.specs.TextUpTo.{TextUpTo, Written, text_room, blank};
 
-use outcome::Outcome;
+use outcome::{Outcome, Refusal};
 use qap::{Blinders, FourAnswers};
 
 // Bytes that are enough for the five lines.
@@ -24,10 +26,11 @@ pub struct Printed {
 }
 
 // The one line of a refusal.
-fn refuse(o: Outcome, text: &mut [u8]) -> usize
+fn refuse(refusal: Refusal, text: &mut [u8]) -> usize
     requires { text_room ≤ length text.old }
-    ensures { TextUpTo (λ t. t ≡ line (o.number ∷ o.place ∷ [])) text.old text.new result }
+    ensures { TextUpTo (λ t. t ≡ line ((told refusal).number ∷ (told refusal).place ∷ [])) text.old text.new result }
 {
+    let o = Outcome::from(refusal);
     text::put_two(o.number as usize, o.place, text, 0)
 }
 
@@ -60,54 +63,64 @@ fn print_five(
 {
     let m = circuit::counts::rows_of(circuit);
     let size = m + 1;
-    let mut z = slices::room();
-    let mut h = slices::room();
-    target::target(m as u32, &mut z[..size]);
-    quotient::quotient(circuit, values, d, &mut h[..size]);
+    let mut z_room = slices::room();
+    let mut h_room = slices::room();
+    let z = &mut z_room[..size];
+    let h = &mut h_room[..size];
+    target::target(m as u32, z).unwrap();
+    quotient::quotient(circuit, values, d, h).unwrap();
     let section = assignment::public_section(circuit, values);
-    let check = answer_check::check_answers(circuit, section, s, r);
-    put_five(&z[..size], &h[..size], r, check.number, text)
+    let check = Outcome::from(answer_check::check_answers(circuit, section, s, r));
+    put_five(z, h, r, check.number, text)
 }
 
 // A job's parts. Of those that a file was read into only the rows can fail.
-fn print_job(circuit: &[u32], values: &[u32], d: Blinders, s: u32, text: &mut [u8]) -> usize
+fn print_job(
+    circuit: &[u32],
+    values: &[u32],
+    d: Blinders,
+    s: u32,
+    text: &mut [u8],
+) -> Result<usize, Refusal>
     requires { text_room ≤ length text.old }
-    ensures { TextUpTo (PrintsParts circuit.now values.now d s) text.old text.new result }
+    ensures { Written (answers_verdict standard circuit.now values.now d s) (FiveOf circuit.now values.now d s) text.old text.new result }
 {
-    let found = answers::answers(circuit, values, d, s);
-    if found.outcome.number != 0 {
-        return refuse(found.outcome, text);
-    }
-    print_five(circuit, values, d, s, found.numbers, text)
+    let r = answers::answers(circuit, values, d, s)?;
+    Ok(print_five(circuit, values, d, s, r, text))
 }
 
 // A file's words.
-fn print_words(words: &[u32], text: &mut [u8]) -> usize
+fn print_words(words: &[u32], text: &mut [u8]) -> Result<usize, Refusal>
     requires { text_room ≤ length text.old }
-    ensures { TextUpTo (PrintsWords words.now) text.old text.new result }
+    ensures { Written (job_verdict words.now) (FiveLines words.now) text.old text.new result }
 {
-    let job = job_file::read(words);
-    if job.outcome.number != 0 {
-        return refuse(job.outcome, text);
-    }
-    let end = job.circuit;
-    let last = job.assignment;
-    print_job(&words[..end], &words[end..last], job.d, job.s, text)
+    let job = job_file::read(words)?;
+    let circuit = &words[..job.circuit];
+    let values = &words[job.circuit..job.assignment];
+    print_job(circuit, values, job.d, job.s, text)
 }
 
 // 14 first, then the words that the bytes hold.
+fn print_bytes(input: &[u8], text: &mut [u8]) -> Result<usize, Refusal>
+    requires { text_room ≤ length text.old }
+    ensures { Written (program_verdict input.now) (FiveLines (unpacked input.now)) text.old text.new result }
+{
+    job_file::size_verdict(input.len())?;
+    let mut room = packing::words_room();
+    let words = &mut room[..input.len() / 4];
+    packing::unpack(input, words);
+    print_words(words, text)
+}
+
+// The five lines, or that of the refusal.
 fn print(input: &[u8], text: &mut [u8]) -> usize
     requires { text_room ≤ length text.old }
     ensures { TextUpTo (Prints input.now) text.old text.new result }
 {
-    let sized = job_file::size_verdict(input.len());
-    if sized.number != 0 {
-        return refuse(sized, text);
+    match print_bytes(input, text) {
+        Ok(size) => size,
+        Err(refusal) => refuse(refusal, text),
     }
-    let end = input.len() / 4;
-    let mut words = packing::words_room();
-    packing::unpack(input, &mut words[..end]);
-    print_words(&words[..end], text)
 }
 
 // All that the program prints for the bytes of standard input.

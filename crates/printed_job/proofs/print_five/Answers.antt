@@ -1,79 +1,59 @@
 -- Target and quotient lie in the front of a room each; each call accepts, since the answers' verdict was 0.
-use mathlib.Core.List.{List}
-use mathlib.Core.Path.{◌≡◌, sym, ◌∙◌, ap}
-use Prim.Native.Nat.{ℕ, ◌+◌, ◌≤◌}
+use mathlib.Core.Path.{sym}
+use Prim.Native.Nat.{◌+◌, ◌≤◌}
 use native.Mathlib.Omega.{arith}
-use Rattle.outcome.specs.Verdict.{Accepted}
-use Rattle.slices.specs.Zeros.{zeros}
-use Rattle.slices.proofs.Rooms.{Front, Back, front, back}
-use Rattle.circuit.specs.Circuit.{rows}
-use Rattle.circuit.proofs.Rows.{row_range}
-use Rattle.qap.specs.declared.Blinders.{Blinders}
-use Rattle.qap.specs.Refusals.{answers_verdict}
-use Rattle.qap.specs.Setting.{standard}
-use Rattle.printed_job.proofs.LinesLaws.{answers-formed, five_written}
+use Rattle.slices.proofs.Rooms.{Front, front}
+use Rattle.printed_job.proofs.LinesLaws.{no_refusal, answers-formed, few_rows, target-accepted, quotient-accepted, five_written}
 use Rattle.printed_job.proofs.print_five.Goals as goal
-use Rattle.printed_job.proofs.print_five.Goals.{After-quotient, After-room-h, After-room-z, After-target}
+use Rattle.printed_job.proofs.print_five.Goals.{After-rows_of-m, After-room-h_room}
 
-few : (c a : List ℕ) (d : Blinders) (s : ℕ) {m : ℕ} → Accepted (answers_verdict standard c a d s) → m ≡ rows c → m ≤ 256
-few c a d s accepted counted =
-    let most = (row_range (answers-formed _ _ _ _ accepted)).at_most in
-    omega (arith, counted)
+few : (c : After-rows_of-m) → c.rows_of-m.result ≤ 256
+few c = few_rows _ _ _ _ c.requires.accepted.0 c.rows_of-m.ensures
 
-room : (c a : List ℕ) (d : Blinders) (s : ℕ) {m : ℕ} {words : List ℕ} →
-    Accepted (answers_verdict standard c a d s) → m ≡ rows c → words ≡ zeros 257 → Front (m + 1) words
-room c a d s accepted counted made = front _ 257 (omega (arith, few c a d s accepted counted)) made
+z-front : (c : After-room-h_room) → Front (c.rows_of-m.result + 1) c.room-z_room.result
+z-front c =
+    let most = few_rows _ _ _ _ c.requires.accepted.0 c.rows_of-m.ensures in
+    front _ 257 (omega arith) c.room-z_room.ensures
 
-z-front : (c : After-room-z) → Front (c.rows_of-m.result + 1) c.room-z.result
-z-front c = room _ _ _ _ c.requires.accepted.0 c.rows_of-m.ensures c.room-z.ensures
-
-h-front : (c : After-room-h) → Front (c.rows_of-m.result + 1) c.room-h.result
-h-front c = room _ _ _ _ c.requires.accepted.0 c.rows_of-m.ensures c.room-h.ensures
-
-z-back : (c : After-target) → Back (c.rows_of-m.result + 1) c.room-z.result c.target.new.out
-z-back c = back _ (room _ _ _ _ c.requires.accepted.0 c.rows_of-m.ensures c.room-z.ensures) c.target.auto.out
-
-h-back : (c : After-quotient) → Back (c.rows_of-m.result + 1) c.room-h.result c.quotient.new.out
-h-back c = back _ (room _ _ _ _ c.requires.accepted.0 c.rows_of-m.ensures c.room-h.ensures) c.quotient.auto.out
+h-front : (c : After-room-h_room) → Front (c.rows_of-m.result + 1) c.room-h_room.result
+h-front c =
+    let most = few_rows _ _ _ _ c.requires.accepted.0 c.rows_of-m.ensures in
+    front _ 257 (omega arith) c.room-h_room.ensures
 
 pub rows_of-m-requires : goal.rows_of-m-requires
 rows_of-m-requires c = (answers-formed _ _ _ _ c.requires.accepted.0).counts
 
-pub returns : goal.returns
-returns c =
-    let at = goal.at.returns c in
-    let size = ap (λ (m : ℕ). m + 1) c.rows_of-m.ensures in
-    five_written _ _ _ _ c.requires.accepted.0 c.requires.accepted.1 c.rows_of-m.ensures
-    (sym (z-front at.After-room-z).size ∙ size) (sym (h-front at.After-room-h).size ∙ size)
-    c.target.ensures c.quotient.ensures c.public_section-section.ensures c.check_answers-check.ensures
-    (rw ((z-back at.After-target).words, (h-back at.After-quotient).words) at c.put_five.ensures)
-
 pub overflow_add-size : goal.overflow_add-size
-overflow_add-size c = omega (arith, few _ _ _ _ c.requires.accepted.0 c.rows_of-m.ensures)
+overflow_add-size c = omega (arith, few c)
 
 pub overflow_cast-m : goal.overflow_cast-m
-overflow_cast-m c = omega (arith, few _ _ _ _ c.requires.accepted.0 c.rows_of-m.ensures)
+overflow_cast-m c = omega (arith, few (goal.at.overflow_cast-m c).After-rows_of-m)
+
+pub slice_bounds-z_room-end : goal.slice_bounds-z_room-end
+slice_bounds-z_room-end c = (z-front c).fits
 
 pub slice_bounds-z-end : goal.slice_bounds-z-end
-slice_bounds-z-end c = (z-front (goal.at.slice_bounds-z-end c).After-room-z).fits
+slice_bounds-z-end c = (z-front (goal.at.slice_bounds-z-end c).After-room-h_room).size
 
-pub slice_bounds-target-end : goal.slice_bounds-target-end
-slice_bounds-target-end c = (z-front (goal.at.slice_bounds-target-end c).After-room-z).size
+pub slice_bounds-h_room-end : goal.slice_bounds-h_room-end
+slice_bounds-h_room-end c = (h-front (goal.at.slice_bounds-h_room-end c).After-room-h_room).fits
 
 pub slice_bounds-h-end : goal.slice_bounds-h-end
-slice_bounds-h-end c = (h-front (goal.at.slice_bounds-h-end c).After-room-h).fits
+slice_bounds-h-end c = (h-front (goal.at.slice_bounds-h-end c).After-room-h_room).size
 
-pub slice_bounds-quotient-end : goal.slice_bounds-quotient-end
-slice_bounds-quotient-end c = (h-front (goal.at.slice_bounds-quotient-end c).After-room-h).size
+pub unwrap-requires : goal.unwrap-requires
+unwrap-requires c =
+    let size = sym (z-front (goal.at.unwrap-requires c).After-room-h_room).size in
+    no_refusal _ c.target.ensures.number_and_place (target-accepted _ _ _ _ c.requires.accepted.0 c.rows_of-m.ensures size)
 
-pub slice_bounds-z-end-2 : goal.slice_bounds-z-end-2
-slice_bounds-z-end-2 c = (z-back (goal.at.slice_bounds-z-end-2 c).After-target).fits
+pub unwrap-requires-2 : goal.unwrap-requires-2
+unwrap-requires-2 c =
+    let size = sym (h-front (goal.at.unwrap-requires-2 c).After-room-h_room).size in
+    no_refusal _ c.quotient.ensures.number_and_place (quotient-accepted _ _ _ _ c.requires.accepted.0 c.rows_of-m.ensures size)
 
-pub slice_bounds-put_five-end : goal.slice_bounds-put_five-end
-slice_bounds-put_five-end c = (z-back (goal.at.slice_bounds-put_five-end c).After-target).size
-
-pub slice_bounds-h-end-2 : goal.slice_bounds-h-end-2
-slice_bounds-h-end-2 c = (h-back (goal.at.slice_bounds-h-end-2 c).After-quotient).fits
-
-pub slice_bounds-put_five-end-2 : goal.slice_bounds-put_five-end-2
-slice_bounds-put_five-end-2 c = (h-back (goal.at.slice_bounds-put_five-end-2 c).After-quotient).size
+pub returns : goal.returns
+returns c =
+    let read = (goal.at.returns c).After-room-h_room in
+    let judged = rw (c.public_section-section.ensures, ← c.from-check.ensures) at c.check_answers.ensures in
+    five_written _ _ _ _ c.requires.accepted.0 c.requires.accepted.1 c.rows_of-m.ensures (sym (z-front read).size) (sym (h-front read).size)
+    c.target.ensures c.quotient.ensures judged c.put_five.ensures
