@@ -1,11 +1,14 @@
--- Bytes that are whole words, and a room with at least as many words: what is lent of it to unpack them into.
-use mathlib.Core.List.{List}
-use mathlib.Core.Path.{◌≡◌}
+-- Bytes that are whole words, and a room with at least as many words: what is lent of it to unpack them into, and what is
+-- there once they are unpacked.
+use mathlib.Core.List.{List, ◌++◌}
+use mathlib.Core.Path.{◌≡◌, ◌∙◌, ap}
 use Prim.Native.Nat.{ℕ, ◌*◌, ◌/◌, ◌≤◌}
 use native.Mathlib.Omega.{arith}
-use lib.ListN.{length, take}
+use lib.ListN.{length, take, drop}
 use Rattle.slices.specs.Zeros.{zeros}
-use Rattle.slices.proofs.Rooms.{Front, front}
+use Rattle.slices.proofs.Rooms.{Front, front, back}
+use Rattle.packing.specs.Packing.{unpacked}
+use Rattle.packing.proofs.PackingLaws.{length-unpacked}
 
 pub record Fits (bytes room : List ℕ) : Type 0 where
   pub lent : Front (length bytes / 4) room
@@ -13,3 +16,16 @@ pub record Fits (bytes room : List ℕ) : Type 0 where
 
 pub fits : (n : ℕ) {bytes room : List ℕ} → length bytes ≡ 4 * (length bytes / 4) → length bytes / 4 ≤ n → room ≡ zeros n → Fits bytes room
 fits n {bytes} whole few is-room = let lent = front _ n few is-room in record { lent = lent; whole = omega (arith, lent.size) }
+
+-- the room's front, once what was lent of it is back as `new`
+pub record Unpacked (bytes room new : List ℕ) : Type 0 where
+  pub fits : length bytes / 4 ≤ length (new ++ drop (length bytes / 4) room)
+  pub size : length bytes / 4 ≡ length (take (length bytes / 4) (new ++ drop (length bytes / 4) room))
+  pub words : take (length bytes / 4) (new ++ drop (length bytes / 4) room) ≡ unpacked bytes
+
+pub unpacked_back : {bytes room new : List ℕ} → Fits bytes room → new ≡ unpacked bytes → Unpacked bytes room new
+unpacked_back {bytes} {room} {new} made filled =
+    let lent = made.lent in
+    let words = length-unpacked bytes (length (take (length bytes / 4) room)) made.whole in
+    let read = back new lent (ap length filled ∙ words) in
+    record { fits = read.fits; size = read.size; words = read.words ∙ filled }
