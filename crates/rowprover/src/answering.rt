@@ -1,6 +1,6 @@
 // The exported answers: bytes to words, the file's verdict with 8 between 11 and 10, then the four answers as bytes (RULES 8).
 ghost use Rattle.std.specs.Prelude.{◌≡◌, length};
-ghost use Rattle.outcome.specs.Verdict.{Accepted};
+ghost use Rattle.outcome.specs.Verdict.{outcome_of, Accepted};
 ghost use Rattle.packing.specs.Packing.{packed};
 ghost use Rattle.qap.specs.declared.Blinders.{Blinders};
 ghost use Rattle.qap.specs.declared.FourAnswers.{FourAnswers};
@@ -8,7 +8,7 @@ ghost use Rattle.qap.specs.Refusals.{answer_words, ready_verdict, point_verdict}
 ghost use Rattle.qap.specs.Setting.{standard};
 ghost use Rattle.rowprover.specs.Exports.{answers_bytes, RowsFilled, WordsFilled, JobFilled};
 
-use outcome::Outcome;
+use outcome::Refusal;
 use qap::{Blinders, FourAnswers};
 
 // Bytes of the four answers (RULES 8).
@@ -24,45 +24,41 @@ fn write_answers(r: FourAnswers, out: &mut [u8])
 }
 
 // 10, then the answers.
-fn answers_of(circuit: &[u32], values: &[u32], d: Blinders, s: u32, out: &mut [u8]) -> Outcome
+fn answers_of(
+    circuit: &[u32],
+    values: &[u32],
+    d: Blinders,
+    s: u32,
+    out: &mut [u8],
+) -> Result<(), Refusal>
     requires { Accepted (ready_verdict standard circuit.now values.now d) × Accepted (point_verdict standard circuit.now s) × (length out.old ≡ answers_bytes) }
-    ensures { RowsFilled circuit.now values.now d s out.old out.new result }
+    ensures { RowsFilled circuit.now values.now d s out.old out.new (outcome_of result) }
 {
-    let found = answers::answer_rows(circuit, values, d, s);
-    let hold = found.outcome;
-    if hold.number != 0 {
-        return hold;
-    }
-    write_answers(found.numbers, out);
-    hold
+    let found = answers::answer_rows(circuit, values, d, s)?;
+    write_answers(found, out);
+    Ok(())
 }
 
 // The words of a job.
-fn answers_words(words: &[u32], out: &mut [u8]) -> Outcome
-    ensures { WordsFilled words.now out.old out.new result }
+fn answers_words(words: &[u32], out: &mut [u8]) -> Result<(), Refusal>
+    ensures { WordsFilled words.now out.old out.new (outcome_of result) }
 {
-    let job = job_file::read(words);
-    let read = job.outcome;
-    if read.number != 0 {
-        return read;
-    }
-    let sized = refusals::length_verdict(out.len(), ANSWERS_BYTES);
-    if sized.number != 0 {
-        return sized;
-    }
-    let end = job.circuit;
-    let last = job.assignment;
-    answers_of(&words[..end], &words[end..last], job.d, job.s, out)
+    let job = job_file::read(words)?;
+    refusals::length_verdict(out.len(), ANSWERS_BYTES)?;
+    answers_of(
+        &words[..job.circuit],
+        &words[job.circuit..job.assignment],
+        job.d,
+        job.s,
+        out,
+    )
 }
 
 // 14 first, then the words that the bytes hold.
-pub fn answers_bytes(job: &[u8], out: &mut [u8]) -> Outcome
-    ensures { JobFilled job.now out.old out.new result }
+pub fn answers_bytes(job: &[u8], out: &mut [u8]) -> Result<(), Refusal>
+    ensures { JobFilled job.now out.old out.new (outcome_of result) }
 {
-    let sized = job_file::size_verdict(job.len());
-    if sized.number != 0 {
-        return sized;
-    }
+    job_file::size_verdict(job.len())?;
     let end = job.len() / 4;
     let mut words = packing::words_room();
     packing::unpack(job, &mut words[..end]);

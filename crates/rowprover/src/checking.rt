@@ -1,11 +1,11 @@
 // The exported check: 14 for the three lengths, then the word call on what the bytes hold (RULES 8).
 ghost use Rattle.std.specs.Prelude.{◌≡◌, ◌≤◌, length};
-ghost use Rattle.outcome.specs.Verdict.{Accepted};
+ghost use Rattle.outcome.specs.Verdict.{outcome_of, Accepted};
 ghost use Rattle.packing.specs.Packing.{unpacked};
 ghost use Rattle.job_file.specs.File.{size_verdict};
 ghost use Rattle.rowprover.specs.Exports.{query_bytes, most_section_bytes, sizes_verdict, CheckWords, CheckBytes};
 
-use outcome::{Outcome, require};
+use outcome::{Refusal, require};
 use qap::FourAnswers;
 
 // Bytes of a query: the point and the four answers (RULES 8).
@@ -15,9 +15,9 @@ const QUERY_BYTES: usize = 20;
 const MOST_SECTION_BYTES: usize = 1028;
 
 // The word call on the words of the query.
-fn check_words(circuit: &[u32], section: &[u32], query: &[u8]) -> Outcome
+fn check_words(circuit: &[u32], section: &[u32], query: &[u8]) -> Result<(), Refusal>
     requires { length query.now ≡ query_bytes }
-    ensures { CheckWords circuit.now section.now (unpacked query.now) result }
+    ensures { CheckWords circuit.now section.now (unpacked query.now) (outcome_of result) }
 {
     let r = FourAnswers {
         first: packing::word_at(query, 4),
@@ -29,9 +29,9 @@ fn check_words(circuit: &[u32], section: &[u32], query: &[u8]) -> Outcome
 }
 
 // The words of a section that a circuit may ask for.
-fn check_section(circuit: &[u32], section: &[u8], query: &[u8]) -> Outcome
+fn check_section(circuit: &[u32], section: &[u8], query: &[u8]) -> Result<(), Refusal>
     requires { Accepted (size_verdict (length section.now)) × (length section.now ≤ most_section_bytes) × (length query.now ≡ query_bytes) }
-    ensures { CheckWords circuit.now (unpacked section.now) (unpacked query.now) result }
+    ensures { CheckWords circuit.now (unpacked section.now) (unpacked query.now) (outcome_of result) }
 {
     let end = section.len() / 4;
     let mut words = slices::room();
@@ -40,34 +40,32 @@ fn check_section(circuit: &[u32], section: &[u8], query: &[u8]) -> Outcome
 }
 
 // A section with more words than any circuit asks for is not read: a circuit that is accepted refuses it by 6.
-fn check_circuit(circuit: &[u32], section: &[u8], query: &[u8]) -> Outcome
+fn check_circuit(circuit: &[u32], section: &[u8], query: &[u8]) -> Result<(), Refusal>
     requires { Accepted (size_verdict (length section.now)) × (length query.now ≡ query_bytes) }
-    ensures { CheckWords circuit.now (unpacked section.now) (unpacked query.now) result }
+    ensures { CheckWords circuit.now (unpacked section.now) (unpacked query.now) (outcome_of result) }
 {
-    let short = require(section.len() <= MOST_SECTION_BYTES, 6, 0);
-    if short.number != 0 {
-        return reader::circuit_verdict(circuit).and_then(short);
+    if section.len() > MOST_SECTION_BYTES {
+        reader::circuit_verdict(circuit)?;
+        return Err(Refusal::Shape);
     }
     check_section(circuit, section, query)
 }
 
 // 14 for the lengths.
-fn sizes_verdict(circuit: usize, section: usize, query: usize) -> Outcome
-    ensures { result ≡ sizes_verdict circuit section query }
+#[tactic(auto, using(outcome::proofs::Asked::asked), unfolding(crate::specs::Exports::sizes_verdict))]
+fn sizes_verdict(circuit: usize, section: usize, query: usize) -> Result<(), Refusal>
+    ensures { outcome_of result ≡ sizes_verdict circuit section query }
 {
-    job_file::size_verdict(circuit)
-        .and_then(job_file::size_verdict(section))
-        .and_then(require(query == QUERY_BYTES, 14, 0))
+    job_file::size_verdict(circuit)?;
+    job_file::size_verdict(section)?;
+    require(query == QUERY_BYTES, Refusal::Bytes)
 }
 
 // 14 first, then the circuit's words.
-pub fn check_bytes(circuit: &[u8], section: &[u8], query: &[u8]) -> Outcome
-    ensures { CheckBytes circuit.now section.now query.now result }
+pub fn check_bytes(circuit: &[u8], section: &[u8], query: &[u8]) -> Result<(), Refusal>
+    ensures { CheckBytes circuit.now section.now query.now (outcome_of result) }
 {
-    let sized = sizes_verdict(circuit.len(), section.len(), query.len());
-    if sized.number != 0 {
-        return sized;
-    }
+    sizes_verdict(circuit.len(), section.len(), query.len())?;
     let end = circuit.len() / 4;
     let mut words = packing::words_room();
     packing::unpack(circuit, &mut words[..end]);

@@ -23,7 +23,7 @@ fn integer(o: Outcome) -> u64
 pub extern "C" fn rowprover_answers(job: &[u8], out: &mut [u8]) -> u64
     ensures { AnswersExport job.now out.old out.new result }
 {
-    integer(answering::answers_bytes(job, out))
+    integer(Outcome::from(answering::answers_bytes(job, out)))
 }
 
 // The answer check on circuit, public section, and the 20 bytes of point and answers.
@@ -31,5 +31,5 @@ pub extern "C" fn rowprover_answers(job: &[u8], out: &mut [u8]) -> u64
 pub extern "C" fn rowprover_check(circuit: &[u8], section: &[u8], query: &[u8]) -> u64
     ensures { CheckExport circuit.now section.now query.now result }
 {
-    integer(checking::check_bytes(circuit, section, query))
+    integer(Outcome::from(checking::check_bytes(circuit, section, query)))
 }

@@ -3,9 +3,7 @@ use Rattle.rowprover.proofs.Small.{near-answers}
 use Rattle.rowprover.proofs.rowprover_answers.Goals as goal
 
 pub integer-requires : goal.integer-requires
-integer-requires c = rw c.answers_bytes.ensures.number_and_place (near-answers _ _).near
+integer-requires c = rw (c.from.ensures, c.answers_bytes.ensures.number_and_place) (near-answers _ _).near
 
 pub returns : goal.returns
-returns c =
-    let found = c.answers_bytes in
-    record { outcome = found.result; filled = found.ensures; returned = c.integer.ensures }
+returns c = record { outcome = c.from.result; filled = rw c.from.ensures c.answers_bytes.ensures; returned = c.integer.ensures }

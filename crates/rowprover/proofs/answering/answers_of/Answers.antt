@@ -1,15 +1,17 @@
 -- A row that fails refuses before a byte is written; else the answers are packed.
+use native.Mathlib.Omega.{arith}
+use Rattle.outcome.proofs.Asked.{asked}
 use Rattle.qap.proofs.Filling.{filled-refused, filled-done}
 use Rattle.rowprover.proofs.answering.answers_of.Goals as goal
 
-pub returns-then-hold-ne0 : goal.returns-then-hold-ne0
-returns-then-hold-ne0 c = filled-refused _ c.answer_rows-found.ensures.number_and_place _ c.if-hold-ne0.true
+pub returns-in_err-found : goal.returns-in_err-found
+returns-in_err-found c = filled-refused _ _ (grind (arith, asked)) (grind (arith, asked))
 
 pub returns : goal.returns
 returns c =
-    let found = c.answer_rows-found in
-    filled-done _ found.ensures.number_and_place _ _ c.if-hold-ne0.false (λ h. record {
-      answers = found.result.numbers;
-      are_answers = found.ensures.done h;
+    let found = c.in_ok-found.ensures in
+    filled-done _ _ _ found.number_and_place (record {
+      answers = c.in_ok-found.found;
+      are_answers = found.done (record { is_zero = grind (arith, asked) });
       are_bytes = c.write_answers.ensures;
     })

@@ -1,17 +1,11 @@
 -- A long section is refused unread; else it is read too.
-use borrow.Author.Tests.{leb-true}
-use lib.Dec.{lit<}
-use Rattle.outcome.proofs.Verdict.{is_accepted, require-accepted}
+use native.Mathlib.Omega.{arith}
+use Rattle.outcome.proofs.Asked.{asked}
 use Rattle.rowprover.proofs.LongSection.{long_section}
 use Rattle.rowprover.proofs.checking.check_circuit.Goals as goal
 
-pub returns-then-short-ne0 : goal.returns-then-short-ne0
-returns-then-short-ne0 c =
-    long_section _ _ _ _ _ c.requires.0 c.require-short.ensures c.if-short-ne0.true
-    (rw c.circuit_verdict.ensures at c.and_then.ensures)
+pub returns-in_err-circuit_verdict : goal.returns-in_err-circuit_verdict
+returns-in_err-circuit_verdict c = long_section _ _ _ _ _ c.requires.0 (omega arith) (grind (arith, asked))
 
-pub check_section-requires : goal.check_section-requires
-check_section-requires c =
-    let pre = c.requires in
-    let short = leb-true _ _ (require-accepted _ 6 0 (lit< tt) (is_accepted c.require-short.ensures c.if-short-ne0.false)) in
-    (pre.0, short, pre.1)
+pub returns-then-section-gt-MOST_SECTION_BYTES : goal.returns-then-section-gt-MOST_SECTION_BYTES
+returns-then-section-gt-MOST_SECTION_BYTES c = long_section _ _ _ _ _ c.requires.0 (omega arith) (grind (arith, asked))
