@@ -1,5 +1,4 @@
 pub mod Verdict
-pub mod Chain
 pub mod Asked
 pub mod Same
 pub mod Scan

@@ -20,13 +20,10 @@ accepted_or_refused o =
 pub not_both : {o : Outcome} → Accepted o → Refused o → ⊥
 not_both a r = omega (arith, a.is_zero, r.is_positive)
 
--- what a test of a returned number says of the verdict
+-- what a returned number says of the verdict
 
 pub is_accepted : {o v : Outcome} → o ≡ v → o.number ≡ 0 → Accepted v
 is_accepted {o} e h = let a : Accepted o = record { is_zero = h } in rw e at a
-
-pub is_refused : {o v : Outcome} → o ≡ v → (o.number ≡ 0 → ⊥) → Refused v
-is_refused {o} e h = let r : Refused o = record { is_positive = omega arith } in rw e at r
 
 choice : {A : Type 0} (n : ℕ) (x y : A) → n ≡ 0 → elim n as (λ n. A) [ zero ↦ x | suc k ↦ y ] ≡ x
 choice zero x y h = refl

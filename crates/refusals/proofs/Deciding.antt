@@ -11,12 +11,6 @@ use Rattle.outcome.proofs.Verdict.{not_both, apart, passes, fails}
 use Rattle.qap.specs.Calls.{Judged}
 use Rattle.refusals.specs.Decides.{Decides}
 
-pub decides_true : {Equal : Type 0} → Equal → Decides Equal true
-decides_true e = record { when_true = λ h. e; when_false = λ h k. absurd (apart h) }
-
-pub decides_false : {Equal : Type 0} → (Equal → ⊥) → Decides Equal false
-decides_false e = record { when_true = λ h. absurd (apart (sym h)); when_false = λ h. e }
-
 -- two numbers compared, where the statement says that they are equal
 pub decides_equal : {Equal : Type 0} (x y : ℕ) → (x ≡ y → Equal) → (Equal → x ≡ y) → Decides Equal (eqb x y)
 decides_equal x y to back = record {
