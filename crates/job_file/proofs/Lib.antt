@@ -1,3 +1,4 @@
 pub mod FileLaws
 pub mod Places
 pub mod Proper
+pub mod Sized

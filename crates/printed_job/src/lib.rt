@@ -90,6 +90,7 @@ fn print_job(
 }
 
 // A file's words.
+#[tactic(auto, using(outcome::proofs::Asked::asked), unfolding(job_file::specs::File::job_verdict))]
 fn print_words(words: &[u32], text: &mut [u8]) -> Result<usize, Refusal>
     requires { text_room ≤ length text.old }
     ensures { Written (job_verdict words.now) (FiveLines words.now) text.old text.new result }
@@ -101,6 +102,7 @@ fn print_words(words: &[u32], text: &mut [u8]) -> Result<usize, Refusal>
 }
 
 // 14 first, then the words that the bytes hold.
+#[tactic(auto, using(outcome::proofs::Asked::asked, job_file::proofs::Sized::sized, packing::proofs::Unpacking::room), unfolding(crate::specs::Lines::program_verdict))]
 fn print_bytes(input: &[u8], text: &mut [u8]) -> Result<usize, Refusal>
     requires { text_room ≤ length text.old }
     ensures { Written (program_verdict input.now) (FiveLines (unpacked input.now)) text.old text.new result }
