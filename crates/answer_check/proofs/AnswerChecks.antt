@@ -3,7 +3,12 @@
 use mathlib.Core.Bool.{Bool}
 use mathlib.Core.Path.{◌≡◌, sym, ◌∙◌}
 use mathlib.Core.List.{List}
-use Prim.Native.Nat.{ℕ, ◌+◌, ◌*◌, ◌%◌}
+use Prim.Native.Nat.{ℕ, ◌+◌, ◌*◌, ◌%◌, ◌≤◌}
+use lib.ListN.{length}
+use Rattle.circuit.proofs.Formed.{circuit-formed}
+use Rattle.circuit.proofs.Rows.{row_range}
+use Rattle.qap.specs.Refusals.{check_answers_verdict}
+use Rattle.qap.proofs.Settings.{check_ready}
 use Rattle.algebra.specs.Congruence.{◌≈⟨◌⟩◌}
 use Rattle.algebra.specs.Polynomial.{value}
 use Rattle.algebra.proofs.Congruence.{≈_refl, ≈_sym, ≈_trans, ≈-plus, ≈-product, ≈-reduced}
@@ -19,7 +24,7 @@ use Rattle.qap.proofs.Standard.{row-sound}
 use Rattle.qap.proofs.Parts.{part_exists}
 use Rattle.refusals.specs.Decides.{Decides}
 use Rattle.refusals.proofs.Deciding.{decides-other}
-use Rattle.qap.specs.Setting.{row_setting}
+use Rattle.qap.specs.Setting.{row_setting, standard}
 
 -- reduced words are equal exactly where what they stand for is congruent
 module _ (p : ℕ) (r : FourAnswers) (part-a part-b part_c z : ℕ) {u v t x y : ℕ} (first : u ≡ (r.first + part-a) % p) (second : v ≡ (r.second + part-b) % p)
@@ -35,6 +40,13 @@ module _ (p : ℕ) (r : FourAnswers) (part-a part-b part_c z : ℕ) {u v t x y :
 
   pub words_same : (r.first + part-a) * (r.second + part-b) ≈⟨ p ⟩ (r.third + part_c) + z * r.fourth → x ≡ y
   words_same e = left_word ∙ e.same ∙ sym right-word
+
+-- what the accepted verdict says of the circuit, as `grind` takes it
+pub counted : (c b : List ℕ) (s : ℕ) (r : FourAnswers) → (check_answers_verdict standard c b s r).number ≡ 0 →
+    ((check_answers_verdict standard c b s r).number ≡ 0) × (3 ≤ length c) × (1 ≤ rows c) × (rows c ≤ 256)
+counted c b s r e =
+    let formed = (circuit-formed c (check_ready standard c b s r (record { is_zero = e })).circuit).formed in
+    (e, formed.counts, (row_range formed).at_least, (row_range formed).at_most)
 
 module _ {p : ℕ} (field : FieldPrime p) where
   -- the words of the public parts at s

@@ -41,6 +41,7 @@ fn words_agree(r: FourAnswers, part_a: u32, part_b: u32, part_c: u32, z: u32) ->
 }
 
 // The answer check's equality at s.
+#[tactic(auto, using(slices::proofs::Rooms::cut, crate::proofs::AnswerChecks::counted))]
 fn answers_agree(circuit: &[u32], section: &[u32], s: u32, r: FourAnswers) -> bool
     requires { Accepted (check_answers_verdict standard circuit.now section.now s r) }
     ensures { Decides (AnswersAgree standard circuit.now section.now s r) result }
@@ -48,11 +49,12 @@ fn answers_agree(circuit: &[u32], section: &[u32], s: u32, r: FourAnswers) -> bo
     let m = circuit::counts::rows_of(circuit);
     let q = circuit::counts::publics_of(circuit);
     let inverses = field::table::inverses();
-    let mut basis = slices::room();
-    let z = basis::basis_values(&mut basis[..m], s, &inverses);
-    let part_a = evaluation::part_value(circuit, 0, section, 0, q, &basis[..m]);
-    let part_b = evaluation::part_value(circuit, 1, section, 0, q, &basis[..m]);
-    let part_c = evaluation::part_value(circuit, 2, section, 0, q, &basis[..m]);
+    let mut room = slices::room();
+    let basis = &mut room[..m];
+    let z = basis::basis_values(basis, s, &inverses);
+    let part_a = evaluation::part_value(circuit, 0, section, 0, q, basis);
+    let part_b = evaluation::part_value(circuit, 1, section, 0, q, basis);
+    let part_c = evaluation::part_value(circuit, 2, section, 0, q, basis);
     words_agree(r, part_a, part_b, part_c, z)
 }
 

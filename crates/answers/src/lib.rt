@@ -15,6 +15,7 @@ use outcome::Refusal;
 use qap::{Blinders, FourAnswers};
 
 // Private parts for the first three; for the fourth A'(s), B'(s), C'(s) from the row sums over all columns.
+#[tactic(auto, using(outcome::proofs::Asked::asked, slices::proofs::Rooms::cut, crate::proofs::Given::given, crate::proofs::Given::sums_count), unfolding(qap::specs::Refusals::answers_verdict))]
 fn four_answers(
     circuit: &[u32],
     values: &[u32],
@@ -29,10 +30,11 @@ fn four_answers(
 {
     let m = sums_a.len();
     let inverses = field::table::inverses();
-    let mut basis = slices::room();
-    let z = basis::basis_values(&mut basis[..m], s, &inverses);
-    let private = evaluation::private_parts(circuit, values, d, z, &basis[..m]);
-    let whole = evaluation::whole_values(sums_a, sums_b, sums_c, d, z, &basis[..m]);
+    let mut room = slices::room();
+    let basis = &mut room[..m];
+    let z = basis::basis_values(basis, s, &inverses);
+    let private = evaluation::private_parts(circuit, values, d, z, basis);
+    let whole = evaluation::whole_values(sums_a, sums_b, sums_c, d, z, basis);
     FourAnswers {
         first: private.first,
         second: private.second,
@@ -42,6 +44,7 @@ fn four_answers(
 }
 
 // What the call gives once the checks before 10 have passed. The row sums over all columns serve 10 and the fourth answer.
+#[tactic(auto, using(slices::proofs::Rooms::cut, crate::proofs::Given::given))]
 pub fn answer_rows(
     circuit: &[u32],
     values: &[u32],
@@ -52,28 +55,18 @@ pub fn answer_rows(
     ensures { RowsAnswered p circuit.now values.now d s (outcome_of result) (answers_of result) }
 {
     let m = circuit::counts::rows_of(circuit);
-    let mut sums_a = slices::room();
-    let mut sums_b = slices::room();
-    let mut sums_c = slices::room();
-    rows::rows_verdict(
-        circuit,
-        values,
-        &mut sums_a[..m],
-        &mut sums_b[..m],
-        &mut sums_c[..m],
-    )?;
-    Ok(four_answers(
-        circuit,
-        values,
-        d,
-        s,
-        &sums_a[..m],
-        &sums_b[..m],
-        &sums_c[..m],
-    ))
+    let mut room_a = slices::room();
+    let mut room_b = slices::room();
+    let mut room_c = slices::room();
+    let sums_a = &mut room_a[..m];
+    let sums_b = &mut room_b[..m];
+    let sums_c = &mut room_c[..m];
+    rows::rows_verdict(circuit, values, sums_a, sums_b, sums_c)?;
+    Ok(four_answers(circuit, values, d, s, sums_a, sums_b, sums_c))
 }
 
 // The four answers at s.
+#[tactic(auto, using(outcome::proofs::Asked::asked, crate::proofs::Given::given))]
 pub fn answers(circuit: &[u32], values: &[u32], d: Blinders, s: u32) -> Result<FourAnswers, Refusal>
     ensures { AnswersCall standard circuit.now values.now d s (outcome_of result) (answers_of result) }
 {

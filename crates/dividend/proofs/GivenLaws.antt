@@ -1,33 +1,40 @@
 -- What the dividend's functions are given, past the refusals that its callers share. RULES 6.
-use mathlib.Core.Path.{◌≡◌, ◌∙◌}
 use mathlib.Core.List.{List}
-use Prim.Native.Nat.{ℕ, ◌+◌, ◌-◌}
+use Prim.Native.Nat.{ℕ, ◌+◌, ◌≤◌}
+use mathlib.Core.Path.{◌≡◌}
 use native.Mathlib.Omega.{arith}
-use lib.ListN.{length, take}
-use Rattle.slices.proofs.Rooms.{Front}
+use lib.ListN.{length}
 use Rattle.algebra.specs.Points.{row_points, target}
-use Rattle.algebra.specs.Prime.{FieldPrime}
+use Rattle.algebra.proofs.Consecutive.{length-row_points}
+use Rattle.algebra.proofs.Target.{length-target}
 use Rattle.circuit.specs.Circuit.{rows}
+use Rattle.circuit.specs.WellFormed.{Formed}
+use Rattle.circuit.proofs.Rows.{row_range}
 use Rattle.circuit.proofs.Formed.{circuit-formed}
+use Rattle.assignment.specs.WellFormed.{AssignmentFormed}
 use Rattle.assignment.proofs.Accepted.{assignment_formed}
+use Rattle.field.specs.Field.{p}
+use Rattle.field.proofs.PrimeField.{field_prime}
 use Rattle.qap.specs.declared.Blinders.{Blinders}
-use Rattle.qap.specs.Polynomials.{target_of}
-use Rattle.qap.proofs.Settings.{Ready}
-use Rattle.qap.specs.Setting.{row_setting}
-use Rattle.dividend.specs.Dividend.{DividendGiven}
+use Rattle.qap.specs.Refusals.{ready_verdict}
+use Rattle.qap.specs.Setting.{standard}
+use Rattle.qap.proofs.Settings.{ready}
+use Rattle.qap.proofs.Standard.{quotient-words}
 
-module _ {p : ℕ} (field : FieldPrime p) where
-  -- the target that is made in the front of a room, in one word more than there are rows
-  pub target-made : (c : List ℕ) {m : ℕ} {room new : List ℕ} → m ≡ rows c → Front (m + 1) room →
-      new ≡ target p (row_points (length (take (m + 1) room) - 1)) → new ≡ target_of (row_setting p) c
-  target-made c {m} {room} count lent made =
-      let points : length (take (m + 1) room) - 1 ≡ rows c = omega (arith, lent.size) in
-      made ∙ rw points
+-- what the refusals leave that are judged first, as `grind` takes it
+pub given : (c a : List ℕ) (d : Blinders) → (ready_verdict standard c a d).number ≡ 0 →
+    ((ready_verdict standard c a d).number ≡ 0) × (3 ≤ length c) × (rows c ≤ 256) × Formed p c × AssignmentFormed p c a
+given c a d e =
+    let known = ready standard c a d (record { is_zero = e }) in
+    let formed = (circuit-formed c known.circuit).formed in
+    (e, formed.counts, (row_range formed).at_most, formed, assignment_formed field_prime c a known.assignment)
 
-  pub ready-given : (c a : List ℕ) (d : Blinders) {m : ℕ} {z : List ℕ} → Ready (row_setting p) c a d → m ≡ rows c → z ≡ target_of (row_setting p) c → DividendGiven p c a m z
-  ready-given c a d ready count made = record {
-    circuit = (circuit-formed c ready.circuit).formed;
-    assignment = assignment_formed field c a ready.assignment;
-    count = count;
-    is_target = made;
-  }
+-- with the quotient's length
+pub ruleset behind = (given, length-row_points)
+
+-- a room holds a word for each row, and one more, as `grind` takes it
+pub few : (c : List ℕ) → Formed p c → rows c ≤ 256
+few c formed = (row_range formed).at_most
+
+pub target_words : (m : ℕ) → length (target p (row_points m)) ≡ m + 1
+target_words m = omega (arith, length-target p (row_points m), length-row_points m)

@@ -1,4 +1,4 @@
--- The contracts of `dividend` and `take_quotient` admit one result each: any two are equal. RULES 10.
+-- The contracts of `dividend`, `with_target` and `take_quotient` admit one result each: any two are equal. RULES 10.
 use mathlib.Core.Path.{◌≡◌, sym, ◌∙◌}
 use mathlib.Core.List.{List}
 use Prim.Native.Nat.{ℕ}

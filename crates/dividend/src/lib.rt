@@ -6,8 +6,13 @@ ghost use Rattle.std.specs.Prelude.{[], ◌∷◌, ◌≡◌, ◌+◌, ◌<◌, 
 ghost use Rattle.algebra.specs.Polynomial.{Words};
 ghost use Rattle.algebra.specs.Points.{row_points};
 ghost use Rattle.field.specs.Field.{p};
+ghost use Rattle.circuit.specs.Circuit.{rows};
+ghost use Rattle.circuit.specs.WellFormed.{Formed};
+ghost use Rattle.assignment.specs.WellFormed.{AssignmentFormed};
 ghost use Rattle.poly.specs.Division.{division};
 ghost use Rattle.qap.specs.declared.Blinders.{Blinders};
+ghost use Rattle.qap.specs.Polynomials.{target_of};
+ghost use Rattle.qap.specs.Setting.{standard};
 ghost use Rattle.dividend.specs.Blinded.{BlindedThrough};
 ghost use Rattle.dividend.specs.Dividend.{dividend_of, quotient_of, BlindedWhole, IsDividend};
 ghost use Rattle.dividend.specs.Dividend.{DividendGiven, Short, TargetAndRoom};
@@ -26,6 +31,7 @@ fn blind(out: &mut [u32], m: usize, d: u32, z: &[u32])
 }
 
 // A', B' or C' of a matrix: its row sums over all columns, their list, and d times the target.
+#[tactic(auto, using(slices::proofs::Rooms::cut))]
 fn blinded_whole(
     circuit: &[u32],
     values: &[u32],
@@ -53,6 +59,7 @@ fn dividend_of(a: &[u32], b: &[u32], c: &[u32]) -> [u32; poly::PRODUCT]
 }
 
 // A'B' − C' of a circuit, an assignment and blinders; z is the target.
+#[tactic(auto, using(slices::proofs::Rooms::cut, crate::proofs::GivenLaws::few))]
 pub fn dividend(
     circuit: &[u32],
     values: &[u32],
@@ -64,13 +71,31 @@ pub fn dividend(
     ensures { IsDividend p circuit.now values.now d result }
 {
     let end = m + 1;
-    let mut a = slices::room();
-    let mut b = slices::room();
-    let mut c = slices::room();
-    blinded_whole(circuit, values, 0, m, d.first, z, &mut a[..end]);
-    blinded_whole(circuit, values, 1, m, d.second, z, &mut b[..end]);
-    blinded_whole(circuit, values, 2, m, d.third, z, &mut c[..end]);
-    dividend_of(&a[..end], &b[..end], &c[..end])
+    let mut room_a = slices::room();
+    let mut room_b = slices::room();
+    let mut room_c = slices::room();
+    let a = &mut room_a[..end];
+    let b = &mut room_b[..end];
+    let c = &mut room_c[..end];
+    blinded_whole(circuit, values, 0, m, d.first, z, a);
+    blinded_whole(circuit, values, 1, m, d.second, z, b);
+    blinded_whole(circuit, values, 2, m, d.third, z, c);
+    dividend_of(a, b, c)
+}
+
+// The target into z, with one word more than there are rows, and the dividend beside it.
+#[tactic(auto, using(crate::proofs::GivenLaws::few))]
+pub fn with_target(
+    circuit: &[u32],
+    values: &[u32],
+    d: Blinders,
+    z: &mut [u32],
+) -> [u32; poly::PRODUCT]
+    requires { Formed p circuit.now × AssignmentFormed p circuit.now values.now × (length z.old ≡ rows circuit.now + 1) }
+    ensures { (z.new ≡ target_of standard circuit.now) × IsDividend p circuit.now values.now d result }
+{
+    poly::target(z);
+    dividend(circuit, values, d, z.len() - 1, z)
 }
 
 // Division by the list of which `low` is all but the leading 1: the quotient into `out`, the remainder stays in front.
@@ -84,6 +109,7 @@ fn divide_into(work: &mut [u32], low: &[u32], out: &mut [u32])
 }
 
 // The quotient of a dividend by the target z of 1..m, into m + 1 words.
+#[tactic(auto, using(slices::proofs::Rooms::cut, crate::proofs::GivenLaws::target_words))]
 pub fn take_quotient(dividend: [u32; poly::PRODUCT], m: usize, z: &[u32], out: &mut [u32])
     requires { TargetAndRoom p m z.now out.old }
     ensures { out.new ≡ quotient_of p m dividend }

@@ -3,7 +3,7 @@
 use mathlib.Core.Bool.{Bool}
 use mathlib.Core.Path.{◌≡◌, sym, ◌∙◌}
 use mathlib.Core.List.{List}
-use Prim.Native.Nat.{ℕ, suc, ◌≤◌}
+use Prim.Native.Nat.{ℕ, suc}
 use native.Mathlib.Omega.{arith}
 use lib.ListN.{length}
 use lib.Dec.{eqb}
@@ -16,7 +16,6 @@ use Rattle.algebra.specs.Prime.{FieldPrime}
 use Rattle.poly.specs.Product.{padded}
 use Rattle.circuit.specs.Circuit.{rows}
 use Rattle.circuit.specs.WellFormed.{Formed}
-use Rattle.circuit.proofs.Rows.{row_range}
 use Rattle.circuit.proofs.Formed.{circuit-formed}
 use Rattle.qap.specs.declared.Blinders.{Blinders}
 use Rattle.qap.specs.Polynomials.{target_of}
@@ -37,14 +36,11 @@ alike {xs} {ys} e =
     rw e (record { when_true = same.0; when_false = λ h k. absurd (apart (sym (same.1 k) ∙ h)) })
 
 module _ {p : ℕ} (field : FieldPrime p) (c a : List ℕ) (d : Blinders) (h : List ℕ) (accepted : Accepted (check_division_verdict (row_setting p) c a d h)) where
-  pub ready : DivisionReady (row_setting p) c a d h
+  ready : DivisionReady (row_setting p) c a d h
   ready = division_ready (row_setting p) c a d h accepted
 
-  pub formed : Formed p c
+  formed : Formed p c
   formed = (circuit-formed c ready.given.circuit).formed
-
-  pub few : rows c ≤ 256
-  few = (row_range formed).at_most
 
   pub candidate-size : length h ≡ suc (rows c)
   candidate-size = omega (arith, ready.exact, quotient-words p c)

@@ -13,7 +13,7 @@ ghost use Rattle.qap.specs.Setting.{standard};
 use outcome::Refusal;
 use qap::Blinders;
 
-#[tactic(auto, using(outcome::proofs::Asked::asked), unfolding(qap::specs::Refusals::check_division_verdict))]
+#[tactic(auto, using(outcome::proofs::Asked::asked, dividend::proofs::GivenLaws::behind), unfolding(qap::specs::Refusals::check_division_verdict))]
 fn check_division_verdict(
     circuit: &[u32],
     values: &[u32],
@@ -29,16 +29,16 @@ fn check_division_verdict(
 }
 
 // The division check's equality: the words of A'B' − C' are those of Z times the candidate.
+#[tactic(auto, using(outcome::proofs::Asked::asked, slices::proofs::Rooms::cut, dividend::proofs::GivenLaws::given), unfolding(qap::specs::Refusals::check_division_verdict))]
 fn candidate_divides(circuit: &[u32], values: &[u32], d: Blinders, candidate: &[u32]) -> bool
     requires { Accepted (check_division_verdict standard circuit.now values.now d candidate.now) }
     ensures { Decides (CandidateDivides standard circuit.now values.now d candidate.now) result }
 {
     let m = circuit::counts::rows_of(circuit);
-    let end = m + 1;
-    let mut z = slices::room();
-    poly::target(&mut z[..end]);
-    let left = dividend::dividend(circuit, values, d, m, &z[..end]);
-    let right = poly::product(&z[..end], candidate);
+    let mut room = slices::room();
+    let z = &mut room[..m + 1];
+    let left = dividend::with_target(circuit, values, d, z);
+    let right = poly::product(z, candidate);
     left == right
 }
 

@@ -38,6 +38,12 @@ pub record PartGiven (p : ℕ) (c a : List ℕ) (matrix from to : ℕ) (basis : 
 pub record PartValue (p : ℕ) (c a : List ℕ) (matrix from to : ℕ) (basis : List ℕ) (r : ℕ) : Type 0 where
   pub at : (s : ℕ) → BasisValues p (points_of (row_setting p) c) s basis → PartAt p c a matrix from to s r
 
+-- three values, each with its blinder's multiple of z added
+pub record WithBlinders (p : ℕ) (v : ThreeValues) (d : Blinders) (z : ℕ) (r : ThreeValues) : Type 0 where
+  pub first : r.first ≡ (v.first + d.first * z) % p
+  pub second : r.second ≡ (v.second + d.second * z) % p
+  pub third : r.third ≡ (v.third + d.third * z) % p
+
 -- over the private columns; z is the target's value
 pub record PrivateParts (p : ℕ) (c a : List ℕ) (d : Blinders) (z : ℕ) (basis : List ℕ) (r : ThreeValues) : Type 0 where
   pub at : (s : ℕ) → BasisAt p (rows c) s basis z → ThreeAt p c a (publics c) d s r

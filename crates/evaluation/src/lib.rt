@@ -9,7 +9,7 @@ ghost use Rattle.circuit.specs.Circuit.{rows};
 ghost use Rattle.circuit.specs.WellFormed.{Formed};
 ghost use Rattle.assignment.specs.WellFormed.{AssignmentFormed};
 ghost use Rattle.qap.specs.declared.Blinders.{Blinders};
-ghost use Rattle.evaluation.specs.Values.{PartGiven, PartValue, PrivateParts, WholeValues, QuotientValue};
+ghost use Rattle.evaluation.specs.Values.{PartGiven, PartValue, WithBlinders, PrivateParts, WholeValues, QuotientValue};
 
 use qap::Blinders;
 
@@ -21,7 +21,21 @@ pub struct ThreeValues {
     pub third: u32,
 }
 
+impl ThreeValues {
+    // Each with its blinder's multiple of z added.
+    fn blinded(self, d: Blinders, z: u32) -> ThreeValues
+        ensures { WithBlinders p self d z result }
+    {
+        ThreeValues {
+            first: field::add_scaled(self.first, d.first, z),
+            second: field::add_scaled(self.second, d.second, z),
+            third: field::add_scaled(self.third, d.third, z),
+        }
+    }
+}
+
 // The part over the columns after `from` up to `to`, at the point that the basis values are of.
+#[tactic(auto, using(slices::proofs::Rooms::cut, crate::proofs::PartValues::few))]
 pub fn part_value(
     circuit: &[u32],
     matrix: usize,
@@ -34,9 +48,10 @@ pub fn part_value(
     ensures { PartValue p circuit.now values.now matrix from to basis.now result }
 {
     let m = basis.len();
-    let mut sums = slices::room();
-    rows::row_sums(circuit, matrix, values, from, to, &mut sums[..m]);
-    basis::dot(&sums[..m], basis)
+    let mut room = slices::room();
+    let sums = &mut room[..m];
+    rows::row_sums(circuit, matrix, values, from, to, sums);
+    basis::dot(sums, basis)
 }
 
 // The parts of A, B, C over the private columns, with d1 z, d2 z, d3 z added; z is the target's value.
@@ -52,14 +67,12 @@ pub fn private_parts(
 {
     let q = circuit::counts::publics_of(circuit);
     let n = circuit::counts::columns_of(circuit);
-    let part_a = part_value(circuit, 0, values, q, n, basis);
-    let part_b = part_value(circuit, 1, values, q, n, basis);
-    let part_c = part_value(circuit, 2, values, q, n, basis);
-    ThreeValues {
-        first: field::add_scaled(part_a, d.first, z),
-        second: field::add_scaled(part_b, d.second, z),
-        third: field::add_scaled(part_c, d.third, z),
-    }
+    let parts = ThreeValues {
+        first: part_value(circuit, 0, values, q, n, basis),
+        second: part_value(circuit, 1, values, q, n, basis),
+        third: part_value(circuit, 2, values, q, n, basis),
+    };
+    parts.blinded(d, z)
 }
 
 // A'(s), B'(s), C'(s) from the row sums of A, B, C over all columns; z is the target's value.
@@ -74,14 +87,12 @@ pub fn whole_values(
     requires { (length sums_a.now ≡ length basis.now) × (length sums_b.now ≡ length basis.now) × (length sums_c.now ≡ length basis.now) }
     ensures { WholeValues p sums_a.now sums_b.now sums_c.now d z basis.now result }
 {
-    let whole_a = basis::dot(sums_a, basis);
-    let whole_b = basis::dot(sums_b, basis);
-    let whole_c = basis::dot(sums_c, basis);
-    ThreeValues {
-        first: field::add_scaled(whole_a, d.first, z),
-        second: field::add_scaled(whole_b, d.second, z),
-        third: field::add_scaled(whole_c, d.third, z),
-    }
+    let whole = ThreeValues {
+        first: basis::dot(sums_a, basis),
+        second: basis::dot(sums_b, basis),
+        third: basis::dot(sums_c, basis),
+    };
+    whole.blinded(d, z)
 }
 
 // (u v − t) / z

@@ -12,6 +12,7 @@ ghost use Rattle.qap.specs.Setting.{standard};
 use outcome::Refusal;
 use qap::Blinders;
 
+#[tactic(auto, using(outcome::proofs::Asked::asked, dividend::proofs::GivenLaws::behind), unfolding(qap::specs::Refusals::quotient_verdict))]
 fn quotient_verdict(
     circuit: &[u32],
     values: &[u32],
@@ -25,17 +26,17 @@ fn quotient_verdict(
     refusals::rows_verdict(circuit, values)
 }
 
-// The target, then the dividend, then its quotient.
+// The target and the dividend, then its quotient.
+#[tactic(auto, using(outcome::proofs::Asked::asked, slices::proofs::Rooms::cut, dividend::proofs::GivenLaws::given), unfolding(qap::specs::Refusals::quotient_verdict))]
 fn fill_quotient(circuit: &[u32], values: &[u32], d: Blinders, out: &mut [u32])
     requires { Accepted (quotient_verdict standard circuit.now values.now d (length out.old)) }
     ensures { IsQuotient standard circuit.now values.now d out.new }
 {
     let m = circuit::counts::rows_of(circuit);
-    let end = m + 1;
-    let mut z = slices::room();
-    poly::target(&mut z[..end]);
-    let dividend = dividend::dividend(circuit, values, d, m, &z[..end]);
-    dividend::take_quotient(dividend, m, &z[..end], out);
+    let mut room = slices::room();
+    let z = &mut room[..m + 1];
+    let dividend = dividend::with_target(circuit, values, d, z);
+    dividend::take_quotient(dividend, m, z, out);
 }
 
 // The quotient H' of the blinded polynomials, into rows + 1 words.

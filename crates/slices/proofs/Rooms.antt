@@ -11,6 +11,10 @@ pub length-zeros : (n : ℕ) → length (zeros n) ≡ n
 unfolding zeros
 length-zeros n = length-replicate {A = ℕ} n 0
 
+-- the length of the front part that is lent, as `grind` takes it
+pub cut : (m : ℕ) (room : List ℕ) → m ≤ length room → length (take m room) ≡ m
+cut m room fits = length-take-le m room fits
+
 -- the first m words of a room can be lent
 pub record Front (m : ℕ) (room : List ℕ) : Type 0 where
   pub fits : m ≤ length room

@@ -1,13 +1,10 @@
 -- The values stay in front while the last word becomes 0; their list, and d times the target added, is the law's.
-use mathlib.Core.Path.{◌∙◌, ap}
+use mathlib.Core.Path.{◌∙◌}
 use native.Mathlib.Omega.{arith}
-use lib.ListN.{length, set, length-set}
-use lib.Seq.{length-take-le, length_front}
-use Rattle.algebra.specs.Points.{row_points}
-use Rattle.algebra.proofs.Consecutive.{length-row_points}
-use Rattle.algebra.proofs.Target.{length-target}
-use Rattle.field.specs.Field.{p}
+use lib.Seq.{length-take-le}
+use Rattle.std.proofs.lemmas.Grind.{common_steps}
 use Rattle.field.proofs.PrimeField.{field_prime}
+use Rattle.dividend.proofs.GivenLaws.{target_words}
 use Rattle.dividend.proofs.BlindedLaws.{values-kept, last-zero, blinded_law}
 use Rattle.dividend.proofs.blind.Goals as goal
 
@@ -17,13 +14,8 @@ interpolate-requires c =
     let out = c.args.out.now in
     rw (values-kept m out c.requires.0.room) (omega (arith, length-take-le m out (omega arith)), c.requires.1, c.inverses-inverses.ensures)
 
--- the part of the values comes back as long as it was lent
 pub add_scaled-requires : goal.add_scaled-requires
-add_scaled-requires c =
-    let m = c.args.m in
-    let out = c.args.out.now in
-    let whole = length_front (set out m 0) c.interpolate.new.v m c.interpolate.auto.v in
-    omega (arith, whole, length-set out m 0, ap length c.requires.0.is_target, length-target p (row_points m), length-row_points m)
+add_scaled-requires c = grind (arith, common_steps, target_words)
 
 pub returns : goal.returns
 returns c =

@@ -1,18 +1,9 @@
 -- The row sums stand in front of the word of room when the list is blinded.
-use mathlib.Core.Path.{◌∙◌}
 use native.Mathlib.Omega.{arith}
-use lib.Seq.{length-take-le}
 use Rattle.circuit.proofs.Rows.{row_range}
 use Rattle.field.proofs.PrimeField.{field_prime}
 use Rattle.dividend.proofs.WholeLaws.{whole-size, whole_words, whole-blinded}
 use Rattle.dividend.proofs.blinded_whole.Goals as goal
-
-pub whole_sums-requires : goal.whole_sums-requires
-whole_sums-requires c =
-    let given = c.requires.0 in (
-      record { circuit = given.circuit; of_three = c.requires.1; size = length-take-le _ _ (omega arith) ∙ given.count },
-      given.assignment,
-    )
 
 pub blind-requires : goal.blind-requires
 blind-requires c =
