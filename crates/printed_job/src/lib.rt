@@ -49,6 +49,7 @@ fn put_five(z: &[u32], h: &[u32], r: FourAnswers, number: u32, text: &mut [u8]) 
 }
 
 // What is printed beside the answers r: target and quotient, of one word more than there are rows, and the check of r.
+#[tactic(auto, using(outcome::proofs::Asked::asked, crate::proofs::LinesLaws::behind_answers, packing::proofs::Unpacking::room))]
 fn print_five(
     circuit: &[u32],
     values: &[u32],

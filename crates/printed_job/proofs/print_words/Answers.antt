@@ -5,9 +5,9 @@ use borrow.Author.Rules.{rules}
 use lib.Seq.{length-take-le}
 use Rattle.outcome.specs.Verdict.{Accepted}
 use Rattle.outcome.proofs.Asked.{asked}
-use Rattle.job_file.specs.File.{file_verdict, job_verdict}
+use Rattle.job_file.specs.File.{file_verdict}
 use Rattle.job_file.proofs.FileLaws.{Lent, lent}
-use Rattle.printed_job.proofs.LinesLaws.{written-refused, file_goes_on}
+use Rattle.printed_job.proofs.LinesLaws.{file_goes_on}
 use Rattle.printed_job.proofs.print_words.Goals as goal
 use Rattle.printed_job.proofs.print_words.Goals.{In_ok-job}
 
@@ -16,10 +16,6 @@ accepted c = record { is_zero = grind (arith, asked) }
 
 parts : (c : In_ok-job) → Lent c.args.words.now c.in_ok-job.job
 parts c = lent (accepted c) c.in_ok-job.ensures.split
-
-pub returns-in_err-job : goal.returns-in_err-job
-unfolding job_verdict
-returns-in_err-job c = written-refused _ (grind (arith, asked)) (grind (arith, asked))
 
 pub returns : goal.returns
 returns c =
