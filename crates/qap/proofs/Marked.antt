@@ -40,7 +40,7 @@ use Rattle.qap.proofs.Filling.{filled-refused, filled-done}
 writes : {Right : List ℕ → Type 0} {words : List ℕ} (verdict : ℕ → Outcome) → verdict (length words) ≡ fine → Right words →
     ((f g : List ℕ) → Right f → Right g → f ≡ g) → Writes (λ old new o. Filled (verdict (length old)) Right old new o) words
 writes {Right} {words} verdict v right only = record {
-  admits = λ old size. filled-done Right old words (sym (rw size v)) right;
+  admits = λ old size. filled-done Right (sym (rw size v)) old words refl (λ accepted. right);
   no_other = λ old new o size h.
       let e : verdict (length old) ≡ fine = rw size v in
       (h.number_and_place ∙ e, only new words (h.done (rw e accepted-fine)) right);
@@ -49,7 +49,7 @@ writes {Right} {words} verdict v right only = record {
 refuses : {Right : List ℕ → Type 0} (verdict : ℕ → Outcome) (size number place : ℕ) → verdict size ≡ outcome (suc number) place →
     Refuses (λ old new o. Filled (verdict (length old)) Right old new o) size (suc number) place
 refuses {Right} verdict size number place v = record {
-  admits = λ old s. filled-refused Right old (sym (rw s v)) (omega arith);
+  admits = λ old s. filled-refused Right (sym (rw s v)) old (λ e. omega arith);
   no_other = λ old new o s h.
       let e : verdict (length old) ≡ outcome (suc number) place = rw s v in
       (h.number_and_place ∙ e, h.kept (rw e (record { is_positive = omega arith })));

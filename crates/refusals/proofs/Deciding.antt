@@ -2,12 +2,13 @@
 -- RULES 5.
 use mathlib.Core.Bool.{Bool, true, false}
 use mathlib.Core.Path.{◌≡◌, refl, sym, ◌∙◌}
-use Prim.Native.Nat.{ℕ, ◌<◌}
+use Prim.Native.Nat.{ℕ}
+use native.Mathlib.Nat.{pos_of_ne-zero}
 use borrow.Author.Tests.{eq-eqb, eqb-true}
 use lib.Dec.{eqb}
 use Rattle.outcome.specs.declared.Outcome.{Outcome}
-use Rattle.outcome.specs.Verdict.{Accepted, Refused, require}
-use Rattle.outcome.proofs.Verdict.{not_both, apart, passes, fails}
+use Rattle.outcome.specs.Verdict.{Refused, require}
+use Rattle.outcome.proofs.Verdict.{not_both, is_accepted, apart, passes, fails}
 use Rattle.qap.specs.Calls.{Judged}
 use Rattle.refusals.specs.Decides.{Decides}
 
@@ -22,21 +23,21 @@ decides_equal x y to back = record {
 pub decides-other : {Equal Other : Type 0} {x : Bool} → (Equal → Other) → (Other → Equal) → Decides Equal x → Decides Other x
 decides-other to back d = record { when_true = λ h. to (d.when_true h); when_false = λ h k. d.when_false h (back k) }
 
--- the verdict refused: its refusal is handed on
-pub judged-refused : {verdict o : Outcome} (Equal : Type 0) → o ≡ verdict → 0 < o.number → Judged verdict Equal o
-judged-refused {verdict} {o} Equal e l =
-    let refused : Refused verdict = record { is_positive = rw (← e) l } in
-    record { refused = λ r. e; accepts = λ a k. absurd (not_both a refused); rejects = λ a k. absurd (not_both a refused) }
+-- d is what the verdict's function gave back
+module _ {verdict d : Outcome} (Equal : Type 0) (e : d ≡ verdict) where
+  pub judged-refused : (d.number ≡ 0 → ⊥) → Judged verdict Equal d
+  judged-refused h =
+      let refused : Refused verdict = rw (← e) (record { is_positive = pos_of_ne-zero h }) in
+      record { refused = λ r. e; accepts = λ a k. absurd (not_both a refused); rejects = λ a k. absurd (not_both a refused) }
 
--- the verdict accepted: the equality decides
-pub judged-accepted : {verdict o : Outcome} {Equal : Type 0} (x : Bool) → Accepted verdict → Decides Equal x → o ≡ require x 13 0 → Judged verdict Equal o
-judged-accepted true h decided made = record {
-  refused = λ r. absurd (not_both h r);
-  accepts = λ a k. made ∙ passes 13 0 refl;
-  rejects = λ a unequal. absurd (unequal (decided.when_true refl));
-}
-judged-accepted false h decided made = record {
-  refused = λ r. absurd (not_both h r);
-  accepts = λ a k. absurd (decided.when_false refl k);
-  rejects = λ a unequal. made ∙ fails 13 0 refl;
-}
+  pub judged-accepted : d.number ≡ 0 → (x : Bool) → Decides Equal x → {o : Outcome} → o ≡ require x 13 0 → Judged verdict Equal o
+  judged-accepted h true decided made = record {
+    refused = λ r. absurd (not_both (is_accepted e h) r);
+    accepts = λ a k. made ∙ passes 13 0 refl;
+    rejects = λ a unequal. absurd (unequal (decided.when_true refl));
+  }
+  judged-accepted h false decided made = record {
+    refused = λ r. absurd (not_both (is_accepted e h) r);
+    accepts = λ a k. absurd (decided.when_false refl k);
+    rejects = λ a unequal. made ∙ fails 13 0 refl;
+  }

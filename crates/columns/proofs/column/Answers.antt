@@ -1,4 +1,5 @@
 -- Refused by the verdict, or one column is filled.
+use mathlib.Core.Path.{refl}
 use native.Mathlib.Omega.{arith}
 use lib.ListN.{length}
 use Rattle.outcome.proofs.Asked.{asked}
@@ -12,7 +13,7 @@ use Rattle.columns.proofs.ColumnLaws.{one-column}
 use Rattle.columns.proofs.column.Goals as goal
 
 pub returns-in_err-column_verdict : goal.returns-in_err-column_verdict
-returns-in_err-column_verdict c = filled-refused _ _ (grind (arith, asked)) (grind (arith, asked))
+returns-in_err-column_verdict c = filled-refused _ (grind (arith, asked)) _ (λ h. grind (arith, asked))
 
 pub fill_columns-requires : goal.fill_columns-requires
 fill_columns-requires c =
@@ -26,4 +27,4 @@ fill_columns-requires c =
     }
 
 pub returns : goal.returns
-returns c = filled-done _ _ _ (grind (arith, asked)) (one-column c.fill_columns.ensures)
+returns c = filled-done _ (grind (arith, asked)) _ _ refl (λ h. (one-column c.fill_columns.ensures))

@@ -1,5 +1,5 @@
 -- Refused by the verdict, or all columns are filled.
-use mathlib.Core.Path.{◌∙◌}
+use mathlib.Core.Path.{refl, ◌∙◌}
 use native.Mathlib.Omega.{arith}
 use lib.ListN.{length}
 use Rattle.outcome.proofs.Asked.{asked}
@@ -17,7 +17,7 @@ all : (c : In_ok-columns_verdict) → ColumnsAsked standard c.args.circuit.now c
 all c = columns_asked standard _ _ _ (record { is_zero = grind (arith, asked) })
 
 pub returns-in_err-columns_verdict : goal.returns-in_err-columns_verdict
-returns-in_err-columns_verdict c = filled-refused _ _ (grind (arith, asked)) (grind (arith, asked))
+returns-in_err-columns_verdict c = filled-refused _ (grind (arith, asked)) _ (λ h. grind (arith, asked))
 
 pub columns_of-n-requires : goal.columns_of-n-requires
 columns_of-n-requires c = (circuit-formed _ (all c).circuit).formed.counts
@@ -35,4 +35,4 @@ fill_columns-requires c =
     }
 
 pub returns : goal.returns
-returns c = filled-done _ _ _ (grind (arith, asked)) (all_columns (rw c.columns_of-n.ensures at c.fill_columns.ensures))
+returns c = filled-done _ (grind (arith, asked)) _ _ refl (λ h. (all_columns (rw c.columns_of-n.ensures at c.fill_columns.ensures)))

@@ -10,6 +10,7 @@ use Rattle.assignment.specs.WellFormed.{AssignmentFormed}
 use Rattle.rows.proofs.Parts.{span_private}
 use Rattle.field.specs.Field.{p}
 use Rattle.evaluation.specs.Values.{PartGiven}
+use Rattle.field.proofs.PrimeField.{field_prime}
 use Rattle.evaluation.proofs.BlindedValues.{three_at}
 use Rattle.evaluation.proofs.private_parts.Goals as goal
 
@@ -36,6 +37,6 @@ returns c =
     let q = c.publics_of-q.ensures in
     let n = c.columns_of-n.ensures in
     record {
-      at = λ s basis. three_at p basis c.args.d (rw (q, n) at (c.part_value.ensures.at s basis.values)) (rw (q, n) at (c.part_value-2.ensures.at s basis.values))
+      at = λ s basis. three_at field_prime basis c.args.d (rw (q, n) at (c.part_value.ensures.at s basis.values)) (rw (q, n) at (c.part_value-2.ensures.at s basis.values))
           (rw (q, n) at (c.part_value-3.ensures.at s basis.values)) c.blinded.ensures;
     }

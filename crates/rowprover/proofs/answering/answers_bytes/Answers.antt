@@ -20,7 +20,7 @@ read c = unpacked_back (room-fits (grind (arith, asked)) c.words_room-words.ensu
 
 pub returns-in_err-size_verdict : goal.returns-in_err-size_verdict
 unfolding answers_bytes_verdict
-returns-in_err-size_verdict c = filled-refused _ _ (grind (arith, asked)) (grind (arith, asked))
+returns-in_err-size_verdict c = filled-refused _ (grind (arith, asked)) _ (λ h. grind (arith, asked))
 
 pub returns : goal.returns
 unfolding answers_bytes_verdict

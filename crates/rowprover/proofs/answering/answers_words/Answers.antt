@@ -24,11 +24,11 @@ parts c = lent (accepted c) c.in_ok-job.ensures.split
 
 pub returns-in_err-job : goal.returns-in_err-job
 unfolding words_then_size
-returns-in_err-job c = filled-refused _ _ (grind (arith, asked)) (grind (arith, asked))
+returns-in_err-job c = filled-refused _ (grind (arith, asked)) _ (λ h. grind (arith, asked))
 
 pub returns-in_err-length_verdict : goal.returns-in_err-length_verdict
 unfolding words_then_size
-returns-in_err-length_verdict c = filled-refused _ _ (grind (arith, asked)) (grind (arith, asked))
+returns-in_err-length_verdict c = filled-refused _ (grind (arith, asked)) _ (λ h. grind (arith, asked))
 
 pub answers_of-requires : goal.answers_of-requires
 answers_of-requires c =

@@ -24,7 +24,7 @@ read c =
 
 pub returns-in_err-sizes_verdict : goal.returns-in_err-sizes_verdict
 unfolding check_bytes_verdict
-returns-in_err-sizes_verdict c = judged-refused _ (grind (arith, asked)) (grind (arith, asked))
+returns-in_err-sizes_verdict c = judged-refused _ (grind (arith, asked)) (λ h. grind (arith, asked))
 
 pub check_circuit-requires : goal.check_circuit-requires
 check_circuit-requires c = let lengths = sizes-accepted _ _ _ (accepted (goal.at.check_circuit-requires c).In_ok-sizes_verdict) in (lengths.section_size, lengths.query_size)
