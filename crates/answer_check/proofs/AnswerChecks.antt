@@ -19,6 +19,11 @@ use Rattle.evaluation.specs.Values.{PartAt, PartValue}
 use Rattle.qap.specs.declared.FourAnswers.{FourAnswers}
 use Rattle.qap.specs.Polynomials.{PublicPart, target_of}
 use Rattle.qap.specs.Answers.{AnswersAgree}
+use Rattle.field.specs.Field.{p as prime}
+use Rattle.field.proofs.PrimeField.{field_prime}
+use Rattle.assignment.proofs.Accepted.{public_formed}
+use Rattle.rows.specs.Sums.{Span}
+use Rattle.rows.proofs.Parts.{span-public}
 use Rattle.circuit.specs.WellFormed.{Formed}
 use Rattle.qap.proofs.Standard.{row-sound}
 use Rattle.qap.proofs.Parts.{part_exists}
@@ -41,12 +46,19 @@ module _ (p : ℕ) (r : FourAnswers) (part-a part-b part_c z : ℕ) {u v t x y :
   pub words_same : (r.first + part-a) * (r.second + part-b) ≈⟨ p ⟩ (r.third + part_c) + z * r.fourth → x ≡ y
   words_same e = left_word ∙ e.same ∙ sym right-word
 
--- what the accepted verdict says of the circuit, as `grind` takes it
-pub counted : (c b : List ℕ) (s : ℕ) (r : FourAnswers) → (check_answers_verdict standard c b s r).number ≡ 0 →
-    ((check_answers_verdict standard c b s r).number ≡ 0) × (3 ≤ length c) × (1 ≤ rows c) × (rows c ≤ 256)
-counted c b s r e =
-    let formed = (circuit-formed c (check_ready standard c b s r (record { is_zero = e })).circuit).formed in
-    (e, formed.counts, (row_range formed).at_least, (row_range formed).at_most)
+-- what the accepted verdict says, as `grind` takes it
+pub given : (c b : List ℕ) (s : ℕ) (r : FourAnswers) → (check_answers_verdict standard c b s r).number ≡ 0 →
+    ((check_answers_verdict standard c b s r).number ≡ 0) × (3 ≤ length c) × (1 ≤ rows c) × (rows c ≤ 256) × Formed prime c × Span c b 0 (publics c)
+given c b s r e =
+    let known = check_ready standard c b s r (record { is_zero = e }) in
+    let formed = (circuit-formed c known.circuit).formed in (
+      e,
+      formed.counts,
+      (row_range formed).at_least,
+      (row_range formed).at_most,
+      formed,
+      span-public formed (public_formed field_prime c b known.section),
+    )
 
 module _ {p : ℕ} (field : FieldPrime p) where
   -- the words of the public parts at s

@@ -41,7 +41,7 @@ fn words_agree(r: FourAnswers, part_a: u32, part_b: u32, part_c: u32, z: u32) ->
 }
 
 // The answer check's equality at s.
-#[tactic(auto, using(slices::proofs::Rooms::cut, crate::proofs::AnswerChecks::counted))]
+#[tactic(auto, using(slices::proofs::Rooms::cut, crate::proofs::AnswerChecks::given))]
 fn answers_agree(circuit: &[u32], section: &[u32], s: u32, r: FourAnswers) -> bool
     requires { Accepted (check_answers_verdict standard circuit.now section.now s r) }
     ensures { Decides (AnswersAgree standard circuit.now section.now s r) result }
