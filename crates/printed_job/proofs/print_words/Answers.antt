@@ -1,8 +1,5 @@
 -- Refused as the file is, or printed as its parts are.
-use mathlib.Core.Path.{sym}
 use native.Mathlib.Omega.{arith}
-use borrow.Author.Rules.{rules}
-use lib.Seq.{length-take-le}
 use Rattle.outcome.specs.Verdict.{Accepted}
 use Rattle.outcome.proofs.Asked.{asked}
 use Rattle.job_file.specs.File.{file_verdict}
@@ -23,12 +20,3 @@ returns c =
     let cut = parts read in
     let split = read.in_ok-job.ensures.split in
     rw (file_goes_on _ (accepted read)) (rw (cut.circuit, cut.assignment, split.blinders, split.point) at c.print_job.ensures)
-
-pub slice_bounds-circuit-end : goal.slice_bounds-circuit-end
-slice_bounds-circuit-end c = let l = parts c in sym (length-take-le _ _ (omega (arith, l.ordered, l.within)))
-
-pub offset_bounds-words-job : goal.offset_bounds-words-job
-offset_bounds-words-job c = let l = parts (goal.at.offset_bounds-words-job c).In_ok-job in search rules
-
-pub slice_bounds-values-end : goal.slice_bounds-values-end
-slice_bounds-values-end c = let l = parts (goal.at.slice_bounds-values-end c).In_ok-job in search rules
