@@ -1,4 +1,4 @@
--- How each layer meets what is printed: a refusal's line, the five lines, and what accepted answers give the other calls.
+-- Past an accepted verdict: which verdict is left, and that the calls for target and quotient accept what the answers call did.
 use mathlib.Core.List.{List}
 use mathlib.Core.Path.{◌≡◌, sym, ◌∙◌}
 use Prim.Native.Nat.{ℕ, ◌+◌, ◌≤◌}

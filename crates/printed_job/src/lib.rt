@@ -49,6 +49,7 @@ fn put_five(z: &[u32], h: &[u32], r: FourAnswers, number: u32, text: &mut [u8]) 
 }
 
 // What is printed beside the answers r: target and quotient, of one word more than there are rows, and the check of r.
+// Where the answers' verdict accepts, neither call refuses.
 #[tactic(auto, using(outcome::proofs::Asked::asked, crate::proofs::LinesLaws::behind_answers, packing::proofs::Unpacking::room))]
 fn print_five(
     circuit: &[u32],
@@ -91,7 +92,7 @@ fn print_job(
 }
 
 // A file's words.
-#[tactic(auto, using(outcome::proofs::Asked::asked), unfolding(job_file::specs::File::job_verdict))]
+#[tactic(auto, using(outcome::proofs::Asked::asked, job_file::proofs::ReadParts::read_parts, packing::proofs::Unpacking::room), unfolding(job_file::specs::File::job_verdict))]
 fn print_words(words: &[u32], text: &mut [u8]) -> Result<usize, Refusal>
     requires { text_room ≤ length text.old }
     ensures { Written (job_verdict words.now) (FiveLines words.now) text.old text.new result }
@@ -127,13 +128,11 @@ fn print(input: &[u8], text: &mut [u8]) -> usize
 }
 
 // All that the program prints for the bytes of standard input.
+#[tactic(auto, unfolding(crate::specs::TextUpTo::blank))]
 pub fn run(input: &[u8]) -> Printed
     ensures { TextUpTo (Prints input.now) blank result.bytes result.size }
 {
-    let mut text = [0u8; TEXT_ROOM];
-    let size = print(input, &mut text);
-    Printed {
-        bytes: text,
-        size: size,
-    }
+    let mut bytes = [0u8; TEXT_ROOM];
+    let size = print(input, &mut bytes);
+    Printed { bytes, size }
 }

@@ -1,34 +1,11 @@
--- Refused as the file is, or printed as its parts are.
-use mathlib.Core.Path.{sym}
-use native.Mathlib.Omega.{arith}
-use borrow.Author.Rules.{rules}
-use lib.Seq.{length-take-le}
-use Rattle.outcome.specs.Verdict.{Accepted}
-use Rattle.outcome.proofs.Asked.{asked}
-use Rattle.job_file.specs.File.{file_verdict}
-use Rattle.job_file.proofs.FileLaws.{Lent, lent}
+-- Printed as the file's parts are.
+use Rattle.job_file.proofs.ReadParts.{read_accepted, read_lent}
 use Rattle.printed_job.proofs.LinesLaws.{file_goes_on}
 use Rattle.printed_job.proofs.print_words.Goals as goal
-use Rattle.printed_job.proofs.print_words.Goals.{In_ok-job}
-
-accepted : (c : In_ok-job) → Accepted (file_verdict c.args.words.now)
-accepted c = record { is_zero = grind (arith, asked) }
-
-parts : (c : In_ok-job) → Lent c.args.words.now c.in_ok-job.job
-parts c = lent (accepted c) c.in_ok-job.ensures.split
 
 pub returns : goal.returns
 returns c =
-    let read = (goal.at.returns c).In_ok-job in
-    let cut = parts read in
-    let split = read.in_ok-job.ensures.split in
-    rw (file_goes_on _ (accepted read)) (rw (cut.circuit, cut.assignment, split.blinders, split.point) at c.print_job.ensures)
-
-pub slice_bounds-circuit-end : goal.slice_bounds-circuit-end
-slice_bounds-circuit-end c = let l = parts c in sym (length-take-le _ _ (omega (arith, l.ordered, l.within)))
-
-pub offset_bounds-words-job : goal.offset_bounds-words-job
-offset_bounds-words-job c = let l = parts (goal.at.offset_bounds-words-job c).In_ok-job in search rules
-
-pub slice_bounds-values-end : goal.slice_bounds-values-end
-slice_bounds-values-end c = let l = parts (goal.at.slice_bounds-values-end c).In_ok-job in search rules
+    let read = c.in_ok-job.ensures in
+    let cut = read_lent _ _ read in
+    rw (file_goes_on _ (read_accepted _ _ read))
+    (rw (cut.circuit, cut.assignment, read.split.blinders, read.split.point) at c.print_job.ensures)
