@@ -1,15 +1,17 @@
--- What lengths that 14 does not refuse are: three of a check's, and one of bytes to unpack into a room.
-use mathlib.Core.List.{List}
+-- What lengths that 14 does not refuse are: the three of a check, and one of bytes to unpack into the front of a room.
+use mathlib.Core.List.{List, ◌++◌}
 use mathlib.Core.Path.{◌≡◌}
-use Prim.Native.Nat.{ℕ}
+use Prim.Native.Nat.{ℕ, ◌*◌, ◌/◌, ◌≤◌}
 use borrow.Author.Tests.{eqb-true}
 use lib.Dec.{lit<}
-use lib.ListN.{length}
+use lib.ListN.{length, take}
+use lib.Seq.{take_at}
+use Rattle.std.proofs.lemmas.Grind.{common_steps}
 use Rattle.outcome.specs.Verdict.{Accepted}
+use Rattle.outcome.proofs.Asked.{asked}
 use Rattle.outcome.proofs.Verdict.{accepted-parts, require-accepted}
-use Rattle.slices.specs.Zeros.{zeros}
-use Rattle.packing.specs.Packing.{job_words}
-use Rattle.packing.proofs.Unpacking.{Fits, fits}
+use Rattle.packing.specs.Packing.{unpacked, job_words}
+use Rattle.packing.proofs.PackingLaws.{length-unpacked}
 use Rattle.job_file.specs.File.{size_verdict}
 use Rattle.job_file.proofs.FileLaws.{size-words}
 use Rattle.rowprover.specs.Exports.{query_bytes, sizes_verdict}
@@ -30,5 +32,15 @@ sizes-accepted circuit section query h =
       query_size = eqb-true _ _ (require-accepted _ 14 0 (lit< tt) second.1);
     }
 
-pub room-fits : {bytes room : List ℕ} → (size_verdict (length bytes)).number ≡ 0 → room ≡ zeros job_words → Fits bytes room
-room-fits sized made = let size = size-words _ (record { is_zero = sized }) in fits job_words size.whole size.few made
+-- bytes that 14 does not refuse are whole words, and not more than a room has
+pub whole_words : (size : ℕ) → (size_verdict size).number ≡ 0 → (size ≡ 4 * (size / 4)) × (size / 4 ≤ job_words)
+whole_words size sized = let words = size-words size (record { is_zero = sized }) in (words.whole, words.few)
+
+-- with `zeros` unfolded: their words have room in front of one, and are lent from there
+pub ruleset unpacking = (asked, whole_words, common_steps)
+
+-- a room's front, once their words are back in it
+pub front-words : (bytes rest : List ℕ) {new : List ℕ} → Accepted (size_verdict (length bytes)) → new ≡ unpacked bytes →
+    take (length bytes / 4) (new ++ rest) ≡ unpacked bytes
+front-words bytes rest sized filled =
+    rw filled (take_at (unpacked bytes) rest _ (length-unpacked bytes _ (size-words _ sized).whole))

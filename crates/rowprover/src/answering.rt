@@ -55,6 +55,7 @@ fn answers_words(words: &[u32], out: &mut [u8]) -> Result<(), Refusal>
 }
 
 // 14 first, then the words that the bytes hold.
+#[tactic(auto, using(crate::proofs::Sizes::unpacking), unfolding(slices::specs::Zeros::zeros))]
 pub fn answers_bytes(job: &[u8], out: &mut [u8]) -> Result<(), Refusal>
     ensures { JobFilled job.now out.old out.new (outcome_of result) }
 {

@@ -29,6 +29,7 @@ fn check_words(circuit: &[u32], section: &[u32], query: &[u8]) -> Result<(), Ref
 }
 
 // The words of a section that a circuit may ask for.
+#[tactic(auto, using(crate::proofs::Sizes::unpacking), unfolding(slices::specs::Zeros::zeros))]
 fn check_section(circuit: &[u32], section: &[u8], query: &[u8]) -> Result<(), Refusal>
     requires { Accepted (size_verdict (length section.now)) × (length section.now ≤ most_section_bytes) × (length query.now ≡ query_bytes) }
     ensures { CheckWords circuit.now (unpacked section.now) (unpacked query.now) (outcome_of result) }
@@ -62,6 +63,7 @@ fn sizes_verdict(circuit: usize, section: usize, query: usize) -> Result<(), Ref
 }
 
 // 14 first, then the circuit's words.
+#[tactic(auto, using(crate::proofs::Sizes::unpacking), unfolding(crate::specs::Exports::sizes_verdict, slices::specs::Zeros::zeros))]
 pub fn check_bytes(circuit: &[u8], section: &[u8], query: &[u8]) -> Result<(), Refusal>
     ensures { CheckBytes circuit.now section.now query.now (outcome_of result) }
 {
