@@ -48,7 +48,7 @@ pub near-check : (circuit section query : List ℕ) → Near job_words (check_by
 unfolding check_bytes_verdict
 near-check circuit section query = near_then (near-sizes _ _ _) (λ h.
     let sized = sizes-accepted _ _ _ h in
-    near-check_answers standard _ _ _ _ (few_words circuit sized.circuit_size) (few_words section sized.section_size) (lit≤ tt))
+    near-check_answers standard _ _ _ _ (few_words circuit sized.0) (few_words section sized.1) (lit≤ tt))
 
 -- a check's outcome is its verdict, or at place 0
 pub near-judged : {bound : ℕ} {verdict o : Outcome} {Equal : Type 0} → Near bound verdict → Judged verdict Equal o → Near bound o

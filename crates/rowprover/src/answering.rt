@@ -40,6 +40,7 @@ fn answers_of(
 }
 
 // The words of a job.
+#[tactic(auto, using(crate::proofs::Sizes::file_parts))]
 fn answers_words(words: &[u32], out: &mut [u8]) -> Result<(), Refusal>
     ensures { WordsFilled words.now out.old out.new (outcome_of result) }
 {

@@ -1,9 +1,7 @@
 -- The file's verdict, the size of the output, then the parts that the file's reader found.
-use mathlib.Core.Path.{refl, sym}
+use mathlib.Core.Path.{refl}
 use native.Mathlib.Omega.{arith}
-use borrow.Author.Rules.{rules}
 use lib.ListN.{length}
-use lib.Seq.{length-take-le}
 use Rattle.outcome.specs.Verdict.{Accepted}
 use Rattle.outcome.proofs.Asked.{asked}
 use Rattle.outcome.proofs.Verdict.{is_accepted, goes_on}
@@ -47,12 +45,3 @@ returns c =
     let p = read.in_ok-job.ensures.split in
     let sized : Accepted (length_verdict (length c.args.out.now) answers_bytes) = record { is_zero = grind (arith, asked) } in
     rw (goes_on _ (accepted read), goes_on _ sized) (rw (l.circuit, l.assignment, p.blinders, p.point) at c.answers_of.ensures)
-
-pub offset_bounds-words-job : goal.offset_bounds-words-job
-offset_bounds-words-job c = let l = parts (goal.at.offset_bounds-words-job c).In_ok-job in search rules
-
-pub slice_bounds-answers_of-end : goal.slice_bounds-answers_of-end
-slice_bounds-answers_of-end c = let l = parts (goal.at.slice_bounds-answers_of-end c).In_ok-job in sym (length-take-le _ _ (omega arith))
-
-pub slice_bounds-answers_of-end-2 : goal.slice_bounds-answers_of-end-2
-slice_bounds-answers_of-end-2 c = let l = parts (goal.at.slice_bounds-answers_of-end-2 c).In_ok-job in search rules

@@ -21,4 +21,4 @@ pub returns : goal.returns
 unfolding check_bytes_verdict
 returns c =
     let sized : Accepted (sizes_verdict (length c.args.circuit.now) (length c.args.section.now) (length c.args.query.now)) = record { is_zero = grind (arith, asked) } in
-    rw (goes_on _ sized) (rw (front-words _ _ (sizes-accepted _ _ _ sized).circuit_size c.unpack.ensures) at c.check_circuit.ensures)
+    rw (goes_on _ sized) (rw (front-words _ _ (sizes-accepted _ _ _ sized).0 c.unpack.ensures) at c.check_circuit.ensures)
