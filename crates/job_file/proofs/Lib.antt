@@ -1,3 +1,5 @@
 pub mod FileLaws
 pub mod Places
 pub mod Proper
+pub mod ReadParts
+pub mod Sized

@@ -4,9 +4,9 @@ use mathlib.Core.List.{List, ◌++◌}
 use mathlib.Core.Path.{◌≡◌, ◌∙◌, ap}
 use Prim.Native.Nat.{ℕ, ◌*◌, ◌/◌, ◌≤◌}
 use native.Mathlib.Omega.{arith}
-use lib.ListN.{length, take, drop}
+use lib.ListN.{length, take, drop, length-take}
 use Rattle.slices.specs.Zeros.{zeros}
-use Rattle.slices.proofs.Rooms.{Front, front, back}
+use Rattle.slices.proofs.Rooms.{Front, front, back, length-zeros}
 use Rattle.packing.specs.Packing.{unpacked}
 use Rattle.packing.proofs.PackingLaws.{length-unpacked}
 
@@ -29,3 +29,6 @@ unpacked_back {bytes} {room} {new} made filled =
     let words = length-unpacked bytes (length (take (length bytes / 4) room)) made.whole in
     let read = back new lent (ap length filled ∙ words) in
     record { fits = read.fits; size = read.size; words = read.words ∙ filled }
+
+-- what `grind` is told of a room whose front is lent
+pub ruleset room = (length-zeros, length-take)
