@@ -1,5 +1,4 @@
 pub mod Small
 pub mod LongSection
 pub mod OneResult
-pub mod Sizes
 pub mod Promises

@@ -21,23 +21,23 @@ use Rattle.job_file.proofs.FileLaws.{size-words}
 use Rattle.field.specs.Field.{p}
 use Rattle.qap.specs.Setting.{standard}
 use Rattle.rowprover.specs.Exports.{most_section_bytes}
+<<<<<<< HEAD
 use borrow.Author.Tests.{ne_eqb}
 use lib.Dec.{eqb, leb}
 use Prim.Native.Nat.{◌+◌}
 use mathlib.Core.Bool.{false}
 use Rattle.circuit.specs.Circuit.{publics}
+=======
+>>>>>>> 38bcc51e2e76eec50cf04057bfe553d3c9e70cdb
 
 module _ (c b : List ℕ) (long : 257 < length b) where
-  section-refused : Accepted (circuit_verdict p c) → public_verdict p c b ≡ outcome 6 0
+  section-refused : (circuit_verdict p c).number ≡ 0 → public_verdict p c b ≡ outcome 6 0
   unfolding public_verdict
-  section-refused h =
-      let formed = (circuit-formed c h).formed in
-      let other : eqb (length b) (publics c + 1) ≡ false = ne_eqb _ _ (λ (e : length b ≡ publics c + 1). omega (arith, formed.public_count, formed.column_count)) in
-      grind (arith, asked)
+  section-refused h = let formed = (circuit-formed c (record { is_zero = h })).formed in grind (arith, asked)
 
   long_verdict : (s : ℕ) (r : FourAnswers) → check_answers_verdict standard c b s r ≡ circuit_verdict p c and_then outcome 6 0
   unfolding check_answers_verdict
-  long_verdict s r = let refused : (circuit_verdict p c).number ≡ 0 → public_verdict p c b ≡ outcome 6 0 = λ h. section-refused (record { is_zero = h }) in grind (arith, asked)
+  long_verdict s r = grind (arith, asked, section-refused)
 
 -- as it is tested, on the section's bytes
 pub long_section : (c bytes : List ℕ) {short o : Outcome} (s : ℕ) (r : FourAnswers) (Equal : Type 0) → Accepted (size_verdict (length bytes)) →

@@ -9,7 +9,7 @@ use lib.Dec.{lit≤}
 use lib.ListN.{length}
 use Rattle.outcome.specs.declared.Outcome.{Outcome}
 use Rattle.outcome.specs.Verdict.{Accepted, Refused}
-use Rattle.outcome.proofs.Verdict.{accepted_or_refused}
+use Rattle.outcome.proofs.Verdict.{accepted-parts, accepted_or_refused}
 use Rattle.packing.specs.Packing.{unpacked, job_words}
 use Rattle.packing.proofs.PackingLaws.{length-unpacked}
 use Rattle.qap.specs.Calls.{Judged}
@@ -20,7 +20,6 @@ use Rattle.qap.specs.Setting.{standard}
 use Rattle.qap.proofs.Places.{near-length, near-check_answers}
 use Rattle.job_file.proofs.Places.{near-size, near_file, near_held}
 use Rattle.rowprover.specs.Exports.{answers_bytes, words_then_size, answers_bytes_verdict, sizes_verdict, check_bytes_verdict}
-use Rattle.rowprover.proofs.Sizes.{sizes-accepted}
 
 pub few_words : (b : List ℕ) → Accepted (size_verdict (length b)) → length (unpacked b) ≤ job_words
 few_words b h =
@@ -45,10 +44,10 @@ near-sizes circuit section query =
     near_next (near-size enough circuit) (near_next (near-size enough section) (near-require _ 14 0 (lit≤ tt)))
 
 pub near-check : (circuit section query : List ℕ) → Near job_words (check_bytes_verdict circuit section query)
-unfolding check_bytes_verdict
+unfolding check_bytes_verdict sizes_verdict
 near-check circuit section query = near_then (near-sizes _ _ _) (λ h.
-    let sized = sizes-accepted _ _ _ h in
-    near-check_answers standard _ _ _ _ (few_words circuit sized.circuit_size) (few_words section sized.section_size) (lit≤ tt))
+    let sized = accepted-parts h in
+    near-check_answers standard _ _ _ _ (few_words circuit sized.0) (few_words section (accepted-parts sized.1).0) (lit≤ tt))
 
 -- a check's outcome is its verdict, or at place 0
 pub near-judged : {bound : ℕ} {verdict o : Outcome} {Equal : Type 0} → Near bound verdict → Judged verdict Equal o → Near bound o

@@ -24,6 +24,7 @@ fn write_answers(r: FourAnswers, out: &mut [u8])
 }
 
 // 10, then the answers.
+#[tactic(auto, using(outcome::proofs::Asked::asked))]
 fn answers_of(
     circuit: &[u32],
     values: &[u32],
@@ -40,6 +41,7 @@ fn answers_of(
 }
 
 // The words of a job.
+#[tactic(auto, using(outcome::proofs::Asked::asked, job_file::proofs::ReadParts::read_parts, packing::proofs::Unpacking::room), unfolding(crate::specs::Exports::words_then_size))]
 fn answers_words(words: &[u32], out: &mut [u8]) -> Result<(), Refusal>
     ensures { WordsFilled words.now out.old out.new (outcome_of result) }
 {
@@ -55,12 +57,13 @@ fn answers_words(words: &[u32], out: &mut [u8]) -> Result<(), Refusal>
 }
 
 // 14 first, then the words that the bytes hold.
+#[tactic(auto, using(outcome::proofs::Asked::asked, job_file::proofs::Sized::sized, packing::proofs::Unpacking::room), unfolding(crate::specs::Exports::answers_bytes_verdict))]
 pub fn answers_bytes(job: &[u8], out: &mut [u8]) -> Result<(), Refusal>
     ensures { JobFilled job.now out.old out.new (outcome_of result) }
 {
     job_file::size_verdict(job.len())?;
-    let end = job.len() / 4;
-    let mut words = packing::words_room();
-    packing::unpack(job, &mut words[..end]);
-    answers_words(&words[..end], out)
+    let mut room = packing::words_room();
+    let words = &mut room[..job.len() / 4];
+    packing::unpack(job, words);
+    answers_words(words, out)
 }

@@ -29,14 +29,15 @@ fn check_words(circuit: &[u32], section: &[u32], query: &[u8]) -> Result<(), Ref
 }
 
 // The words of a section that a circuit may ask for.
+#[tactic(auto, using(outcome::proofs::Asked::asked, job_file::proofs::Sized::sized, packing::proofs::Unpacking::room))]
 fn check_section(circuit: &[u32], section: &[u8], query: &[u8]) -> Result<(), Refusal>
     requires { Accepted (size_verdict (length section.now)) × (length section.now ≤ most_section_bytes) × (length query.now ≡ query_bytes) }
     ensures { CheckWords circuit.now (unpacked section.now) (unpacked query.now) (outcome_of result) }
 {
-    let end = section.len() / 4;
-    let mut words = slices::room();
-    packing::unpack(section, &mut words[..end]);
-    check_words(circuit, &words[..end], query)
+    let mut room = slices::room();
+    let words = &mut room[..section.len() / 4];
+    packing::unpack(section, words);
+    check_words(circuit, words, query)
 }
 
 // A section with more words than any circuit asks for is not read: a circuit that is accepted refuses it by 6.
@@ -62,12 +63,13 @@ fn sizes_verdict(circuit: usize, section: usize, query: usize) -> Result<(), Ref
 }
 
 // 14 first, then the circuit's words.
+#[tactic(auto, using(outcome::proofs::Asked::asked, job_file::proofs::Sized::sized, packing::proofs::Unpacking::room), unfolding(crate::specs::Exports::sizes_verdict, crate::specs::Exports::check_bytes_verdict))]
 pub fn check_bytes(circuit: &[u8], section: &[u8], query: &[u8]) -> Result<(), Refusal>
     ensures { CheckBytes circuit.now section.now query.now (outcome_of result) }
 {
     sizes_verdict(circuit.len(), section.len(), query.len())?;
-    let end = circuit.len() / 4;
-    let mut words = packing::words_room();
-    packing::unpack(circuit, &mut words[..end]);
-    check_circuit(&words[..end], section, query)
+    let mut room = packing::words_room();
+    let words = &mut room[..circuit.len() / 4];
+    packing::unpack(circuit, words);
+    check_circuit(words, section, query)
 }

@@ -1,19 +1,13 @@
--- The file's verdict, the size of the output, then the parts that the file's reader found.
-use mathlib.Core.Path.{refl, sym}
+-- The parts that the file's reader found pass what is asked of the answers' parts.
 use native.Mathlib.Omega.{arith}
-use borrow.Author.Rules.{rules}
 use lib.ListN.{length}
-use lib.Seq.{length-take-le}
-use Rattle.outcome.specs.Verdict.{Accepted}
 use Rattle.outcome.proofs.Asked.{asked}
-use Rattle.outcome.proofs.Verdict.{is_accepted, goes_on}
 use Rattle.qap.proofs.Settings.{exact-length}
-use Rattle.qap.proofs.Filling.{filled-refused}
-use Rattle.qap.specs.Refusals.{length_verdict}
-use Rattle.job_file.specs.File.{file_verdict}
-use Rattle.job_file.proofs.FileLaws.{file_ready, file_answers_ready, Lent, lent}
-use Rattle.rowprover.specs.Exports.{answers_bytes, words_then_size}
+use Rattle.job_file.proofs.FileLaws.{file_ready, file_answers_ready}
+use Rattle.job_file.proofs.ReadParts.{read_accepted, read_lent}
+use Rattle.rowprover.specs.Exports.{answers_bytes}
 use Rattle.rowprover.proofs.answering.answers_words.Goals as goal
+<<<<<<< HEAD
 use Rattle.rowprover.proofs.answering.answers_words.Goals.{In_ok-job}
 
 accepted : (c : In_ok-job) → Accepted (file_verdict c.args.words.now)
@@ -29,30 +23,13 @@ returns-in_err-job c = filled-refused _ (grind (arith, asked)) _ (λ h. grind (a
 pub returns-in_err-length_verdict : goal.returns-in_err-length_verdict
 unfolding words_then_size
 returns-in_err-length_verdict c = filled-refused _ (grind (arith, asked)) _ (λ h. grind (arith, asked))
+=======
+>>>>>>> 38bcc51e2e76eec50cf04057bfe553d3c9e70cdb
 
 pub answers_of-requires : goal.answers_of-requires
 answers_of-requires c =
-    let read = (goal.at.answers_of-requires c).In_ok-job in
-    let l = parts read in
-    let all = accepted read in
-    let p = read.in_ok-job.ensures.split in
-    let sized = exact-length _ answers_bytes (record { is_zero = grind (arith, asked) }) in
-    rw (l.circuit, l.assignment, p.blinders, p.point) (file_answers_ready _ all, (file_ready _ all).point, sized)
-
-pub returns : goal.returns
-unfolding words_then_size
-returns c =
-    let read = (goal.at.returns c).In_ok-job in
-    let l = parts read in
-    let p = read.in_ok-job.ensures.split in
-    let sized : Accepted (length_verdict (length c.args.out.now) answers_bytes) = record { is_zero = grind (arith, asked) } in
-    rw (goes_on _ (accepted read), goes_on _ sized) (rw (l.circuit, l.assignment, p.blinders, p.point) at c.answers_of.ensures)
-
-pub offset_bounds-words-job : goal.offset_bounds-words-job
-offset_bounds-words-job c = let l = parts (goal.at.offset_bounds-words-job c).In_ok-job in search rules
-
-pub slice_bounds-answers_of-end : goal.slice_bounds-answers_of-end
-slice_bounds-answers_of-end c = let l = parts (goal.at.slice_bounds-answers_of-end c).In_ok-job in sym (length-take-le _ _ (omega arith))
-
-pub slice_bounds-answers_of-end-2 : goal.slice_bounds-answers_of-end-2
-slice_bounds-answers_of-end-2 c = let l = parts (goal.at.slice_bounds-answers_of-end-2 c).In_ok-job in search rules
+    let read = c.in_ok-job.ensures in
+    let all = read_accepted _ _ read in
+    let lent = read_lent _ _ read in
+    let sized = exact-length (length c.args.out.now) answers_bytes (record { is_zero = grind (arith, asked) }) in
+    rw (lent.circuit, lent.assignment, read.split.blinders, read.split.point) (file_answers_ready _ all, (file_ready _ all).point, sized)
