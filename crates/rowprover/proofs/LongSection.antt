@@ -5,7 +5,7 @@ use Prim.Native.Nat.{ℕ, ◌/◌, ◌<◌}
 use native.Mathlib.Omega.{arith}
 use lib.ListN.{length}
 use Rattle.outcome.specs.declared.Outcome.{Outcome}
-use Rattle.outcome.specs.Verdict.{Accepted, outcome, require, ◌and_then◌}
+use Rattle.outcome.specs.Verdict.{Accepted, outcome, ◌and_then◌}
 use Rattle.outcome.proofs.Asked.{asked}
 use Rattle.packing.specs.Packing.{unpacked}
 use Rattle.packing.proofs.PackingLaws.{length-unpacked}
@@ -21,14 +21,6 @@ use Rattle.job_file.proofs.FileLaws.{size-words}
 use Rattle.field.specs.Field.{p}
 use Rattle.qap.specs.Setting.{standard}
 use Rattle.rowprover.specs.Exports.{most_section_bytes}
-<<<<<<< HEAD
-use borrow.Author.Tests.{ne_eqb}
-use lib.Dec.{eqb, leb}
-use Prim.Native.Nat.{◌+◌}
-use mathlib.Core.Bool.{false}
-use Rattle.circuit.specs.Circuit.{publics}
-=======
->>>>>>> 38bcc51e2e76eec50cf04057bfe553d3c9e70cdb
 
 module _ (c b : List ℕ) (long : 257 < length b) where
   section-refused : (circuit_verdict p c).number ≡ 0 → public_verdict p c b ≡ outcome 6 0
@@ -40,13 +32,10 @@ module _ (c b : List ℕ) (long : 257 < length b) where
   long_verdict s r = grind (arith, asked, section-refused)
 
 -- as it is tested, on the section's bytes
-pub long_section : (c bytes : List ℕ) {short o : Outcome} (s : ℕ) (r : FourAnswers) (Equal : Type 0) → Accepted (size_verdict (length bytes)) →
-    short ≡ require (leb (length bytes) most_section_bytes) 6 0 → (short.number ≡ 0 → ⊥) → o ≡ circuit_verdict p c and_then short →
+pub long_section : (c bytes : List ℕ) {o : Outcome} (s : ℕ) (r : FourAnswers) (Equal : Type 0) → Accepted (size_verdict (length bytes)) →
+    most_section_bytes < length bytes → o ≡ circuit_verdict p c and_then outcome 6 0 →
     Judged (check_answers_verdict standard c (unpacked bytes) s r) Equal o
-long_section c bytes {short} {o} s r Equal whole tested long e =
+long_section c bytes s r Equal whole long e =
     let size = (size-words (length bytes) whole).whole in
     let words = length-unpacked bytes (length bytes / 4) size in
-    let more : most_section_bytes < length bytes = grind (arith, asked) in
-    let six : short ≡ outcome 6 0 = grind (arith, asked) in
-    let refused : o ≡ circuit_verdict p c and_then outcome 6 0 = rw six at e in
-    judged-refused Equal (refused ∙ sym (long_verdict c (unpacked bytes) (omega arith) s r)) (λ zero. grind (arith, asked))
+    judged-refused Equal (e ∙ sym (long_verdict c (unpacked bytes) (omega arith) s r)) (grind (arith, asked))
