@@ -3,9 +3,10 @@ use mathlib.Core.List.{List}
 use mathlib.Core.Path.{◌≡◌, sym, ◌∙◌}
 use Prim.Native.Nat.{ℕ, ◌/◌, ◌<◌}
 use native.Mathlib.Omega.{arith}
+use lib.Dec.{leb}
 use lib.ListN.{length}
 use Rattle.outcome.specs.declared.Outcome.{Outcome}
-use Rattle.outcome.specs.Verdict.{Accepted, outcome, ◌and_then◌}
+use Rattle.outcome.specs.Verdict.{Accepted, outcome, ◌and_then◌, require}
 use Rattle.outcome.proofs.Asked.{asked}
 use Rattle.packing.specs.Packing.{unpacked}
 use Rattle.packing.proofs.PackingLaws.{length-unpacked}
@@ -32,10 +33,13 @@ module _ (c b : List ℕ) (long : 257 < length b) where
   long_verdict s r = grind (arith, asked, section-refused)
 
 -- as it is tested, on the section's bytes
-pub long_section : (c bytes : List ℕ) {o : Outcome} (s : ℕ) (r : FourAnswers) (Equal : Type 0) → Accepted (size_verdict (length bytes)) →
-    most_section_bytes < length bytes → o ≡ circuit_verdict p c and_then outcome 6 0 →
+pub long_section : (c bytes : List ℕ) {short o : Outcome} (s : ℕ) (r : FourAnswers) (Equal : Type 0) → Accepted (size_verdict (length bytes)) →
+    short ≡ require (leb (length bytes) most_section_bytes) 6 0 → (short.number ≡ 0 → ⊥) → o ≡ circuit_verdict p c and_then short →
     Judged (check_answers_verdict standard c (unpacked bytes) s r) Equal o
-long_section c bytes s r Equal whole long e =
+long_section c bytes {short} {o} s r Equal whole tested long e =
     let size = (size-words (length bytes) whole).whole in
     let words = length-unpacked bytes (length bytes / 4) size in
-    judged-refused Equal (e ∙ sym (long_verdict c (unpacked bytes) (omega arith) s r)) (grind (arith, asked))
+    let more : most_section_bytes < length bytes = grind (arith, asked) in
+    let six : short ≡ outcome 6 0 = grind (arith, asked) in
+    let refused : o ≡ circuit_verdict p c and_then outcome 6 0 = rw six at e in
+    judged-refused Equal (refused ∙ sym (long_verdict c (unpacked bytes) (omega arith) s r)) (λ zero. grind (arith, asked))
