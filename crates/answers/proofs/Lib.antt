@@ -1,4 +1,4 @@
 pub mod FourLaws
 pub mod OneResult
 pub mod Refusing
-pub mod Given
+pub mod SumsCount

@@ -15,7 +15,7 @@ use outcome::Refusal;
 use qap::{Blinders, FourAnswers};
 
 // Private parts for the first three; for the fourth A'(s), B'(s), C'(s) from the row sums over all columns.
-#[tactic(auto, using(outcome::proofs::Asked::asked, slices::proofs::Rooms::cut, crate::proofs::Given::given, crate::proofs::Given::sums_count), unfolding(qap::specs::Refusals::answers_verdict))]
+#[tactic(auto, using(outcome::proofs::Asked::asked, slices::proofs::Rooms::cut, refusals::proofs::Ready::given, crate::proofs::SumsCount::sums_count), unfolding(qap::specs::Refusals::answers_verdict))]
 fn four_answers(
     circuit: &[u32],
     values: &[u32],
@@ -44,7 +44,7 @@ fn four_answers(
 }
 
 // What the call gives once the checks before 10 have passed. The row sums over all columns serve 10 and the fourth answer.
-#[tactic(auto, using(slices::proofs::Rooms::cut, crate::proofs::Given::given))]
+#[tactic(auto, using(slices::proofs::Rooms::cut, refusals::proofs::Ready::given))]
 pub fn answer_rows(
     circuit: &[u32],
     values: &[u32],
@@ -66,7 +66,7 @@ pub fn answer_rows(
 }
 
 // The four answers at s.
-#[tactic(auto, using(outcome::proofs::Asked::asked, crate::proofs::Given::given))]
+#[tactic(auto, using(outcome::proofs::Asked::asked, refusals::proofs::Ready::given))]
 pub fn answers(circuit: &[u32], values: &[u32], d: Blinders, s: u32) -> Result<FourAnswers, Refusal>
     ensures { AnswersCall standard circuit.now values.now d s (outcome_of result) (answers_of result) }
 {

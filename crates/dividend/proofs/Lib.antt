@@ -2,5 +2,5 @@ pub mod BlindedLaws
 pub mod WholeLaws
 pub mod DividendLaws
 pub mod QuotientLaws
-pub mod GivenLaws
+pub mod TargetWords
 pub mod OneResult

@@ -59,7 +59,7 @@ fn dividend_of(a: &[u32], b: &[u32], c: &[u32]) -> [u32; poly::PRODUCT]
 }
 
 // A'B' − C' of a circuit, an assignment and blinders; z is the target.
-#[tactic(auto, using(slices::proofs::Rooms::cut, crate::proofs::GivenLaws::few))]
+#[tactic(auto, using(slices::proofs::Rooms::cut, circuit::proofs::Rows::few))]
 pub fn dividend(
     circuit: &[u32],
     values: &[u32],
@@ -84,7 +84,7 @@ pub fn dividend(
 }
 
 // The target into z, with one word more than there are rows, and the dividend beside it.
-#[tactic(auto, using(crate::proofs::GivenLaws::few))]
+#[tactic(auto, using(circuit::proofs::Rows::few))]
 pub fn with_target(
     circuit: &[u32],
     values: &[u32],
@@ -109,7 +109,7 @@ fn divide_into(work: &mut [u32], low: &[u32], out: &mut [u32])
 }
 
 // The quotient of a dividend by the target z of 1..m, into m + 1 words.
-#[tactic(auto, using(slices::proofs::Rooms::cut, crate::proofs::GivenLaws::target_words))]
+#[tactic(auto, using(slices::proofs::Rooms::cut, crate::proofs::TargetWords::target_words))]
 pub fn take_quotient(dividend: [u32; poly::PRODUCT], m: usize, z: &[u32], out: &mut [u32])
     requires { TargetAndRoom p m z.now out.old }
     ensures { out.new ≡ quotient_of p m dividend }

@@ -13,7 +13,7 @@ ghost use Rattle.qap.specs.Setting.{standard};
 use outcome::Refusal;
 use qap::Blinders;
 
-#[tactic(auto, using(outcome::proofs::Asked::asked, dividend::proofs::GivenLaws::behind), unfolding(qap::specs::Refusals::check_division_verdict))]
+#[tactic(auto, using(outcome::proofs::Asked::asked, refusals::proofs::Ready::behind), unfolding(qap::specs::Refusals::check_division_verdict))]
 fn check_division_verdict(
     circuit: &[u32],
     values: &[u32],
@@ -29,7 +29,7 @@ fn check_division_verdict(
 }
 
 // The division check's equality: the words of A'B' − C' are those of Z times the candidate.
-#[tactic(auto, using(outcome::proofs::Asked::asked, slices::proofs::Rooms::cut, dividend::proofs::GivenLaws::given), unfolding(qap::specs::Refusals::check_division_verdict))]
+#[tactic(auto, using(outcome::proofs::Asked::asked, slices::proofs::Rooms::cut, refusals::proofs::Ready::given), unfolding(qap::specs::Refusals::check_division_verdict))]
 fn candidate_divides(circuit: &[u32], values: &[u32], d: Blinders, candidate: &[u32]) -> bool
     requires { Accepted (check_division_verdict standard circuit.now values.now d candidate.now) }
     ensures { Decides (CandidateDivides standard circuit.now values.now d candidate.now) result }

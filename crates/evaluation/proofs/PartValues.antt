@@ -14,7 +14,6 @@ use Rattle.basis.proofs.OneAnswer.{dot-value}
 use Rattle.circuit.specs.Circuit.{rows}
 use Rattle.circuit.proofs.Rows.{row_range}
 use Rattle.circuit.specs.WellFormed.{Formed}
-use Rattle.field.specs.Field.{p as prime}
 use Rattle.rows.specs.Rows.{row_sum, row_sums}
 use Rattle.rows.proofs.Sums.{length-sums, sum_at}
 use Rattle.qap.specs.Polynomials.{Part}
@@ -23,10 +22,6 @@ use Rattle.qap.proofs.Settings.{distinct-points}
 use Rattle.qap.proofs.Standard.{row-sound}
 use Rattle.qap.specs.Setting.{row_setting, points_of}
 use Rattle.evaluation.specs.Values.{PartAt}
-
--- a room holds a word for each row, as `grind` takes it
-pub few : (c : List ℕ) → Formed prime c → rows c ≤ 256
-few c formed = (row_range formed).at_most
 
 module _ {p : ℕ} (field : FieldPrime p) where
   module _ (c a : List ℕ) (matrix from to : ℕ) where

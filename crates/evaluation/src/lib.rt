@@ -35,7 +35,7 @@ impl ThreeValues {
 }
 
 // The part over the columns after `from` up to `to`, at the point that the basis values are of.
-#[tactic(auto, using(slices::proofs::Rooms::cut, crate::proofs::PartValues::few))]
+#[tactic(auto, using(slices::proofs::Rooms::cut, circuit::proofs::Rows::few))]
 pub fn part_value(
     circuit: &[u32],
     matrix: usize,

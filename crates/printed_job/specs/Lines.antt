@@ -52,13 +52,6 @@ pub record Reports (verdict : Outcome) (Done : List ℕ → Type 0) (text : List
   pub done : Accepted verdict → Done text
   pub refused : Refused verdict → text ≡ line (verdict.number ∷ verdict.place ∷ [])
 
--- the text of a job's parts, of a file's words, and of a file's bytes
-
-abbrev pub PrintsParts : List ℕ → List ℕ → Blinders → ℕ → List ℕ → Type 0
-PrintsParts c a d s = Reports (answers_verdict standard c a d s) (FiveOf c a d s)
-
-abbrev pub PrintsWords : List ℕ → List ℕ → Type 0
-PrintsWords w = Reports (job_verdict w) (FiveLines w)
-
+-- the text of a file's bytes
 abbrev pub Prints : List ℕ → List ℕ → Type 0
 Prints bytes = Reports (program_verdict bytes) (FiveLines (unpacked bytes))

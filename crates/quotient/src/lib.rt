@@ -12,7 +12,7 @@ ghost use Rattle.qap.specs.Setting.{standard};
 use outcome::Refusal;
 use qap::Blinders;
 
-#[tactic(auto, using(outcome::proofs::Asked::asked, dividend::proofs::GivenLaws::behind), unfolding(qap::specs::Refusals::quotient_verdict))]
+#[tactic(auto, using(outcome::proofs::Asked::asked, refusals::proofs::Ready::behind), unfolding(qap::specs::Refusals::quotient_verdict))]
 fn quotient_verdict(
     circuit: &[u32],
     values: &[u32],
@@ -27,7 +27,7 @@ fn quotient_verdict(
 }
 
 // The target and the dividend, then its quotient.
-#[tactic(auto, using(outcome::proofs::Asked::asked, slices::proofs::Rooms::cut, dividend::proofs::GivenLaws::given), unfolding(qap::specs::Refusals::quotient_verdict))]
+#[tactic(auto, using(outcome::proofs::Asked::asked, slices::proofs::Rooms::cut, refusals::proofs::Ready::given), unfolding(qap::specs::Refusals::quotient_verdict))]
 fn fill_quotient(circuit: &[u32], values: &[u32], d: Blinders, out: &mut [u32])
     requires { Accepted (quotient_verdict standard circuit.now values.now d (length out.old)) }
     ensures { IsQuotient standard circuit.now values.now d out.new }

@@ -22,7 +22,8 @@ use Rattle.qap.specs.Refusals.{answers_verdict}
 use Rattle.qap.specs.Setting.{standard}
 use Rattle.qap.proofs.Standard.{sound}
 use Rattle.qap.proofs.Settings.{answers_ready, off_rows}
-use Rattle.answers.proofs.Given.{given, sums_count}
+use Rattle.refusals.proofs.Ready.{given}
+use Rattle.answers.proofs.SumsCount.{sums_count}
 use Rattle.answers.proofs.FourLaws.{four_answers}
 use Rattle.answers.proofs.four_answers.Goals as goal
 

@@ -4,7 +4,7 @@ use native.Mathlib.Omega.{arith}
 use lib.Seq.{length-take-le}
 use Rattle.std.proofs.lemmas.Grind.{common_steps}
 use Rattle.field.proofs.PrimeField.{field_prime}
-use Rattle.dividend.proofs.GivenLaws.{target_words}
+use Rattle.dividend.proofs.TargetWords.{target_words}
 use Rattle.dividend.proofs.BlindedLaws.{values-kept, last-zero, blinded_law}
 use Rattle.dividend.proofs.blind.Goals as goal
 

@@ -10,7 +10,7 @@ use Rattle.algebra.proofs.Consecutive.{length-row_points}
 use Rattle.field.specs.Field.{p}
 use Rattle.poly.specs.Division.{division, quotient}
 use Rattle.dividend.specs.Dividend.{quotient_of}
-use Rattle.dividend.proofs.GivenLaws.{target_words}
+use Rattle.dividend.proofs.TargetWords.{target_words}
 use Rattle.dividend.proofs.take_quotient.Goals as goal
 
 divided : (m : ℕ) (dividend z out : List ℕ) {n : ℕ} → z ≡ target p (row_points m) → m ≤ 256 → length dividend ≡ 513 → n ≡ m + 1 →

@@ -4,7 +4,7 @@ use Rattle.outcome.proofs.Asked.{asked}
 use Rattle.slices.proofs.Rooms.{cut}
 use Rattle.field.proofs.PrimeField.{field_prime}
 use Rattle.qap.specs.Refusals.{check_division_verdict}
-use Rattle.dividend.proofs.GivenLaws.{given}
+use Rattle.refusals.proofs.Ready.{given}
 use Rattle.division_check.proofs.DivisionChecks.{candidate-size, alike, division_decided}
 use Rattle.division_check.proofs.candidate_divides.Goals as goal
 

@@ -10,7 +10,7 @@ use Rattle.qap.specs.Refusals.{quotient_verdict}
 use Rattle.qap.specs.Setting.{standard}
 use Rattle.qap.proofs.Settings.{quotient_ready}
 use Rattle.qap.proofs.Standard.{quotient-words}
-use Rattle.dividend.proofs.GivenLaws.{given}
+use Rattle.refusals.proofs.Ready.{given}
 use Rattle.dividend.proofs.QuotientLaws.{quotient_law}
 use Rattle.quotient.proofs.fill_quotient.Goals as goal
 

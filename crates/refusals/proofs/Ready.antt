@@ -1,16 +1,15 @@
--- What the refusals leave that are judged first, and how many row sums there are, as `grind` takes it. RULES 6.
+-- What the refusals leave that are judged first, as `grind` takes it. RULES 6.
 use mathlib.Core.Path.{◌≡◌}
 use mathlib.Core.List.{List}
 use Prim.Native.Nat.{ℕ, ◌≤◌}
 use lib.ListN.{length}
-use Rattle.circuit.specs.Circuit.{rows, columns}
+use Rattle.algebra.proofs.Consecutive.{length-row_points}
+use Rattle.circuit.specs.Circuit.{rows}
 use Rattle.circuit.specs.WellFormed.{Formed}
 use Rattle.circuit.proofs.Rows.{row_range}
 use Rattle.circuit.proofs.Formed.{circuit-formed}
 use Rattle.assignment.specs.WellFormed.{AssignmentFormed}
 use Rattle.assignment.proofs.Accepted.{assignment_formed}
-use Rattle.rows.specs.Rows.{row_sums}
-use Rattle.rows.proofs.Sums.{length-sums}
 use Rattle.field.specs.Field.{p}
 use Rattle.field.proofs.PrimeField.{field_prime}
 use Rattle.qap.specs.declared.Blinders.{Blinders}
@@ -25,5 +24,5 @@ given c a d e =
     let formed = (circuit-formed c known.circuit).formed in
     (e, formed.counts, (row_range formed).at_least, (row_range formed).at_most, formed, assignment_formed field_prime c a known.assignment)
 
-pub sums_count : (c a : List ℕ) (matrix : ℕ) → length (row_sums p c a matrix 0 (columns c)) ≡ rows c
-sums_count c a matrix = length-sums p c a matrix 0 (columns c)
+-- with the quotient's length
+pub ruleset behind = (given, length-row_points)
