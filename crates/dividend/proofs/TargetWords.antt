@@ -10,3 +10,6 @@ use Rattle.field.specs.Field.{p}
 
 pub target_words : (m : ℕ) → length (target p (row_points m)) ≡ m + 1
 target_words m = omega (arith, length-target p (row_points m), length-row_points m)
+
+-- and how many points there are
+pub ruleset points = length-row_points

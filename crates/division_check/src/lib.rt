@@ -13,7 +13,7 @@ ghost use Rattle.qap.specs.Setting.{standard};
 use outcome::Refusal;
 use qap::Blinders;
 
-#[tactic(auto, using(outcome::proofs::Asked::asked, refusals::proofs::Ready::behind), unfolding(qap::specs::Refusals::check_division_verdict))]
+#[tactic(auto, using(outcome::proofs::Asked::asked, refusals::proofs::Ready::given, dividend::proofs::TargetWords::points), unfolding(qap::specs::Refusals::check_division_verdict))]
 fn check_division_verdict(
     circuit: &[u32],
     values: &[u32],

@@ -3,7 +3,6 @@ use mathlib.Core.Path.{◌≡◌}
 use mathlib.Core.List.{List}
 use Prim.Native.Nat.{ℕ, ◌≤◌}
 use lib.ListN.{length}
-use Rattle.algebra.proofs.Consecutive.{length-row_points}
 use Rattle.circuit.specs.Circuit.{rows}
 use Rattle.circuit.specs.WellFormed.{Formed}
 use Rattle.circuit.proofs.Rows.{row_range}
@@ -23,6 +22,3 @@ given c a d e =
     let known = ready standard c a d (record { is_zero = e }) in
     let formed = (circuit-formed c known.circuit).formed in
     (e, formed.counts, (row_range formed).at_least, (row_range formed).at_most, formed, assignment_formed field_prime c a known.assignment)
-
--- with the quotient's length
-pub ruleset behind = (given, length-row_points)
