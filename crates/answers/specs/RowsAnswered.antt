@@ -2,7 +2,7 @@
 use Rattle.std.specs.Prelude.{Result, Ok, Err, ◌≡◌, List, ℕ}
 use Rattle.outcome.specs.declared.Outcome.{Outcome}
 use Rattle.outcome.specs.declared.Refusal.{Refusal}
-use Rattle.outcome.specs.Verdict.{told, Accepted, Refused}
+use Rattle.outcome.specs.Verdict.{Accepted, Refused}
 use Rattle.rows.specs.Rows.{rows_verdict}
 use Rattle.rows.specs.Sums.{WholeSums}
 use Rattle.qap.specs.declared.Blinders.{Blinders}

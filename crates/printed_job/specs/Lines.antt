@@ -10,7 +10,7 @@ use Rattle.qap.specs.declared.Blinders.{Blinders}
 use Rattle.qap.specs.declared.FourAnswers.{FourAnswers}
 use Rattle.qap.specs.Polynomials.{target_of, IsQuotient}
 use Rattle.qap.specs.Answers.{IsAnswers}
-use Rattle.qap.specs.Refusals.{answer_words, answers_verdict}
+use Rattle.qap.specs.Refusals.{answer_words}
 use Rattle.qap.specs.Calls.{CheckAnswersCall}
 use Rattle.job_file.specs.File.{assignment_of, blinders_of, point_of, size_verdict, job_verdict}
 use Rattle.field.specs.Field.{p}

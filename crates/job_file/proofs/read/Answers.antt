@@ -1,6 +1,6 @@
 -- A circuit that was refused decides; else the words up to its end are one, and what follows it decides.
 use mathlib.Core.List.{List}
-use mathlib.Core.Path.{◌≡◌, sym, ◌∙◌, ap}
+use mathlib.Core.Path.{◌≡◌, sym, ◌∙◌}
 use Prim.Native.Nat.{ℕ, ◌+◌, ◌-◌, ◌≤◌, ◌<◌}
 use Rattle.std.specs.Prelude.{Result, Ok, Err}
 use Rattle.outcome.specs.declared.Refusal.{Refusal}
@@ -21,7 +21,7 @@ use Rattle.circuit.proofs.Sections.{ends-within}
 use Rattle.field.specs.Field.{p}
 use Rattle.job_file.specs.File.{trailer, blinders_of, point_of, file_verdict}
 use Rattle.job_file.specs.Given.{blinders_in, rest_verdict}
-use Rattle.job_file.specs.Read.{Split, Read}
+use Rattle.job_file.specs.Read.{Read}
 use Rattle.job_file.specs.declared.Job.{Job}
 use Rattle.job_file.proofs.FileLaws.{file_rest, up_to_the_end, ends}
 use Rattle.job_file.proofs.read.Goals as goal

@@ -12,7 +12,6 @@ use Rattle.outcome.proofs.Verdict.{fails, stops}
 use Rattle.outcome.proofs.Asked.{asked}
 use Rattle.circuit.specs.Circuit.{columns}
 use Rattle.assignment.specs.Assignment.{assignment_verdict}
-use Rattle.field.specs.Field.{p}
 use Rattle.job_file.specs.Given.{given_verdict, rest_verdict}
 use Rattle.job_file.proofs.FileLaws.{up_to_the_end}
 use Rattle.job_file.proofs.rest_verdict.Goals as goal
