@@ -59,6 +59,7 @@ fn answers_agree(circuit: &[u32], section: &[u32], s: u32, r: FourAnswers) -> bo
 }
 
 // Four answers to the point s, beside a public section.
+#[tactic(auto, using(outcome::proofs::Asked::asked))]
 pub fn check_answers(
     circuit: &[u32],
     section: &[u32],

@@ -67,7 +67,8 @@ pub fn assignment_verdict(circuit: &[u32], values: &[u32]) -> Result<(), Refusal
     assignment_words_verdict(circuit, values)
 }
 
-// The part of the lent assignment that holds the public section, or an empty part.
+// The part of the lent assignment that holds the public section, or an empty part: a slice and no Option, since document and definition
+// (`public_section`) have it so.
 pub fn public_section<'a>(circuit: &[u32], values: &'a [u32]) -> &'a [u32]
     ensures { result.now ≡ public_section p circuit.now values.now }
 {

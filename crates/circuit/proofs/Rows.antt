@@ -17,8 +17,8 @@ unfolding rows
 row_range formed = formed.row_count
 
 -- at the field's prime, as `grind` takes it
-pub few : (c : List ℕ) → Formed prime c → rows c ≤ 256
-few c formed = (row_range formed).at_most
+pub few : (c : List ℕ) → Formed prime c → (1 ≤ rows c) × (rows c ≤ 256)
+few c formed = let range = row_range formed in (range.at_least, range.at_most)
 
 -- an entry's row is one of them
 pub row_inside : {p : ℕ} {c : List ℕ} {s e : ℕ} → EntryFormed p c s e → Within 1 (row_of c s e) (rows c)

@@ -1,31 +1,26 @@
 // The counts m, q, n of a circuit, for code that knows nothing of where they stand. RULES 2.
+// Three functions and no index handed over: code and contracts speak of rows, public columns and columns by name.
+// A word becomes a length by `as`: there is no From between u32 and usize.
 ghost use Rattle.std.specs.Prelude.{◌≡◌, ◌≤◌, length};
 ghost use Rattle.circuit.specs.Circuit.{rows, publics, columns};
-
-// A word as a number of rows or columns.
-fn wide(x: u32) -> usize
-    ensures { result ≡ x }
-{
-    x as usize
-}
 
 pub fn rows_of(words: &[u32]) -> usize
     requires { 3 ≤ length words.now }
     ensures { result ≡ rows words.now }
 {
-    wide(words[0])
+    words[0] as usize
 }
 
 pub fn publics_of(words: &[u32]) -> usize
     requires { 3 ≤ length words.now }
     ensures { result ≡ publics words.now }
 {
-    wide(words[1])
+    words[1] as usize
 }
 
 pub fn columns_of(words: &[u32]) -> usize
     requires { 3 ≤ length words.now }
     ensures { result ≡ columns words.now }
 {
-    wide(words[2])
+    words[2] as usize
 }

@@ -12,6 +12,7 @@ mod coefficients;
 mod matrix;
 
 // One column of matrix 0, 1 or 2, into as many words as there are rows.
+#[tactic(auto, using(outcome::proofs::Asked::asked))]
 pub fn column(circuit: &[u32], matrix: u32, column: u32, out: &mut [u32]) -> Result<(), Refusal>
     ensures { ColumnCall standard circuit.now matrix column out.old out.new (outcome_of result) }
 {
@@ -21,6 +22,7 @@ pub fn column(circuit: &[u32], matrix: u32, column: u32, out: &mut [u32]) -> Res
 }
 
 // All columns of a matrix, one after the other.
+#[tactic(auto, using(outcome::proofs::Asked::asked))]
 pub fn columns(circuit: &[u32], matrix: u32, out: &mut [u32]) -> Result<(), Refusal>
     ensures { ColumnsCall standard circuit.now matrix out.old out.new (outcome_of result) }
 {

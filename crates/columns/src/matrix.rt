@@ -96,14 +96,16 @@ fn write_columns(
 }
 
 // The same with the target and the weights made once for all of them.
+#[tactic(auto, using(slices::proofs::Rooms::cut, circuit::proofs::Rows::few))]
 pub fn fill_columns(circuit: &[u32], matrix: usize, first: u32, count: usize, out: &mut [u32])
     requires { ColumnsRoom p circuit.now matrix first count out.old }
     ensures { ColumnsFrom p circuit.now matrix first count out.new }
 {
     let m = circuit::counts::rows_of(circuit);
-    let end = m + 1;
-    let mut z = slices::room();
-    let mut weights = slices::room();
-    prepare(&mut z[..end], &mut weights[..m]);
-    write_columns(circuit, matrix, first, count, &z[..end], &weights[..m], out);
+    let mut z_room = slices::room();
+    let mut weights_room = slices::room();
+    let z = &mut z_room[..m + 1];
+    let weights = &mut weights_room[..m];
+    prepare(z, weights);
+    write_columns(circuit, matrix, first, count, z, weights, out);
 }

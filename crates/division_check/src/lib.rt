@@ -43,6 +43,7 @@ fn candidate_divides(circuit: &[u32], values: &[u32], d: Blinders, candidate: &[
 }
 
 // A candidate for the quotient of the blinded polynomials.
+#[tactic(auto, using(outcome::proofs::Asked::asked))]
 pub fn check_division(
     circuit: &[u32],
     values: &[u32],

@@ -1,7 +1,7 @@
 -- Row sums times basis values are the value at s of the list that the part is (RULES 5).
 use mathlib.Core.Path.{◌≡◌, ◌∙◌, ap}
 use mathlib.Core.List.{List}
-use Prim.Native.Nat.{ℕ, suc, ◌*◌, ◌%◌, ◌<◌, ◌≤◌}
+use Prim.Native.Nat.{ℕ, suc, ◌*◌, ◌%◌, ◌<◌}
 use native.Mathlib.Omega.{arith}
 use lib.ListN.{length, get_or}
 use Rattle.algebra.specs.Points.{Through, Distinct}
@@ -12,7 +12,6 @@ use Rattle.algebra.proofs.Consecutive.{length-row_points}
 use Rattle.algebra.specs.Prime.{FieldPrime}
 use Rattle.basis.proofs.OneAnswer.{dot-value}
 use Rattle.circuit.specs.Circuit.{rows}
-use Rattle.circuit.proofs.Rows.{row_range}
 use Rattle.circuit.specs.WellFormed.{Formed}
 use Rattle.rows.specs.Rows.{row_sum, row_sums}
 use Rattle.rows.proofs.Sums.{length-sums, sum_at}

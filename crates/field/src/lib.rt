@@ -38,7 +38,7 @@ pub fn times(a: u32, b: u32) -> u32
     add_scaled(0, a, b)
 }
 
-// The inverse of a, or 0 where a is a multiple of p.
+// The inverse of a, or 0 where a is a multiple of p: a word and no Option, as `InverseOrZero` and the edit `inverse_of_zero` hold it.
 pub fn inverse(a: u32) -> u32
     ensures { InverseOrZero p a result }
 {
@@ -51,6 +51,7 @@ pub fn inverse(a: u32) -> u32
 
 // a times factor leaves rest modulo p, all along. With p = q rest + r, p − q times the factor leaves r.
 // The remainders fall to 1 in at most 46 turns, 18 on average: counted over every word, not proved.
+// A `while`, since it counts nothing: the rest shrinks.
 fn word_inverse(a: u32) -> u32
     requires { (0 < a) × (a < p) }
     ensures { Inverse p a result }

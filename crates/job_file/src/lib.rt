@@ -28,8 +28,6 @@ pub struct Job {
 // Of a job file: RULES 7.
 pub const MOST_BYTES: usize = 37944;
 
-pub const MOST_WORDS: usize = 9486;
-
 // 14 of a number of bytes.
 #[tactic(auto, using(outcome::proofs::Asked::asked), unfolding(crate::specs::File::size_verdict))]
 pub fn size_verdict(size: usize) -> Result<(), Refusal>

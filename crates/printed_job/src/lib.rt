@@ -18,7 +18,8 @@ use qap::{Blinders, FourAnswers};
 // Bytes that are enough for the five lines.
 const TEXT_ROOM: usize = 11008;
 
-// The text is bytes[..size]; the bytes behind it are 0.
+// The text is bytes[..size]; the bytes behind it are 0. An array with a size and no String: the product allocates nothing.
+// Inside, the text is lent as a slice whose length is asked for: an array behind a reference does not bring its length to a proof.
 #[derive(Drop)]
 pub struct Printed {
     pub bytes: [u8; TEXT_ROOM],

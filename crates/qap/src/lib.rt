@@ -1,4 +1,5 @@
 // The calls of the rules over circuits, assignments and points.
+// Records and no arrays of 3 and 4: definitions, promises and edits speak of their words by name.
 #![tactic(auto)]
 
 // d1, d2, d3

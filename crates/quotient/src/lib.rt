@@ -40,6 +40,7 @@ fn fill_quotient(circuit: &[u32], values: &[u32], d: Blinders, out: &mut [u32])
 }
 
 // The quotient H' of the blinded polynomials, into rows + 1 words.
+#[tactic(auto, using(outcome::proofs::Asked::asked))]
 pub fn quotient(
     circuit: &[u32],
     values: &[u32],

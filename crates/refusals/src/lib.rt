@@ -64,15 +64,19 @@ pub fn answers_verdict(r: FourAnswers) -> Result<(), Refusal>
 }
 
 // 10 at the lowest failing row.
+#[tactic(auto, using(slices::proofs::Rooms::cut, circuit::proofs::Rows::few))]
 pub fn rows_verdict(circuit: &[u32], values: &[u32]) -> Result<(), Refusal>
     requires { Formed p circuit.now × AssignmentFormed p circuit.now values.now }
     ensures { outcome_of result ≡ rows_verdict p circuit.now values.now }
 {
     let m = circuit::counts::rows_of(circuit);
-    let mut a = slices::room();
-    let mut b = slices::room();
-    let mut c = slices::room();
-    rows::rows_verdict(circuit, values, &mut a[..m], &mut b[..m], &mut c[..m])
+    let mut room_a = slices::room();
+    let mut room_b = slices::room();
+    let mut room_c = slices::room();
+    let a = &mut room_a[..m];
+    let b = &mut room_b[..m];
+    let c = &mut room_c[..m];
+    rows::rows_verdict(circuit, values, a, b, c)
 }
 
 // 13: a check's equality is false.

@@ -15,7 +15,7 @@ fn integer(o: Outcome) -> u64
     requires { o.place ≤ job_words }
     ensures { result ≡ Rattle.rowprover.specs.Exports.integer o }
 {
-    256 * (o.place as u64) + o.number as u64
+    256 * (o.place as u64) + u64::from(o.number)
 }
 
 // The four answers to a job, into 16 bytes.

@@ -14,7 +14,7 @@ pub fn room_of<const N: usize>() -> [u32; N]
     [0; N]
 }
 
-// Room for one list.
+// Room for one list: the size that callers ask for without a type.
 pub fn room() -> [u32; ROOM]
     ensures { result ≡ zeros 257 }
 {

@@ -29,6 +29,7 @@ fn fill_target(m: u32, out: &mut [u32])
 }
 
 // The target of m rows, into m + 1 words.
+#[tactic(auto, using(outcome::proofs::Asked::asked))]
 pub fn target(m: u32, out: &mut [u32]) -> Result<(), Refusal>
     ensures { TargetCall standard m out.old out.new (outcome_of result) }
 {

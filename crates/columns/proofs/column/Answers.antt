@@ -5,15 +5,12 @@ use lib.ListN.{length}
 use Rattle.outcome.proofs.Asked.{asked}
 use Rattle.circuit.proofs.Formed.{circuit-formed}
 use Rattle.qap.proofs.Columns.{column_asked}
-use Rattle.qap.proofs.Filling.{filled-refused, filled-done}
+use Rattle.qap.proofs.Filling.{filled-done}
 use Rattle.qap.specs.Setting.{standard}
 use Rattle.field.specs.Field.{p}
 use Rattle.qap.proofs.Standard.{count-points}
 use Rattle.columns.proofs.ColumnLaws.{one-column}
 use Rattle.columns.proofs.column.Goals as goal
-
-pub returns-in_err-column_verdict : goal.returns-in_err-column_verdict
-returns-in_err-column_verdict c = filled-refused _ (grind (arith, asked)) _ (λ h. grind (arith, asked))
 
 pub fill_columns-requires : goal.fill_columns-requires
 fill_columns-requires c =

@@ -7,7 +7,7 @@ use Rattle.circuit.proofs.Formed.{circuit-formed}
 use Rattle.field.specs.Field.{p}
 use Rattle.qap.specs.Setting.{standard}
 use Rattle.qap.proofs.Columns.{ColumnsAsked, columns_asked}
-use Rattle.qap.proofs.Filling.{filled-refused, filled-done}
+use Rattle.qap.proofs.Filling.{filled-done}
 use Rattle.qap.proofs.Standard.{count-points}
 use Rattle.columns.proofs.ColumnLaws.{all_columns}
 use Rattle.columns.proofs.columns.Goals as goal
@@ -15,9 +15,6 @@ use Rattle.columns.proofs.columns.Goals.{In_ok-columns_verdict}
 
 all : (c : In_ok-columns_verdict) → ColumnsAsked standard c.args.circuit.now c.args.matrix (length c.args.out.now)
 all c = columns_asked standard _ _ _ (record { is_zero = grind (arith, asked) })
-
-pub returns-in_err-columns_verdict : goal.returns-in_err-columns_verdict
-returns-in_err-columns_verdict c = filled-refused _ (grind (arith, asked)) _ (λ h. grind (arith, asked))
 
 pub columns_of-n-requires : goal.columns_of-n-requires
 columns_of-n-requires c = (circuit-formed _ (all c).circuit).formed.counts

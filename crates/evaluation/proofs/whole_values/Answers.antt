@@ -1,6 +1,5 @@
 -- Row sums times basis values, each with its multiple of z added.
 use Rattle.circuit.specs.Circuit.{columns}
-use Rattle.field.specs.Field.{p}
 use Rattle.field.proofs.PrimeField.{field_prime}
 use Rattle.evaluation.proofs.PartValues.{part_at}
 use Rattle.evaluation.proofs.BlindedValues.{three_at}
