@@ -14,6 +14,7 @@ pub const P: u32 = 2013265921;
 pub const MINUS_ONE: u32 = P - 1;
 
 // The one operation that the others are written with. The sum is made in 64 bits, where it never wraps.
+// The rest goes back by `as`: it fits 32 bits, and no From says so.
 pub fn add_scaled(d: u32, k: u32, s: u32) -> u32
     ensures { result ≡ (d + k * s) % p }
 {

@@ -11,7 +11,7 @@ use std::io::{Print, Read, Stdin};
 const ROOM: usize = 4 * packing::JOB_WORDS + 1;
 
 // Reads until the lent bytes are full, the input ends or a read fails. Gives how many bytes were read.
-// A `while`, since a read says how far it came: nothing is counted.
+// A `while`: how far it goes on, each read says.
 fn read_all(stdin: &mut Stdin, bytes: &mut [u8]) -> io::Result<usize>
     ensures { IfOk result (λ size. size ≤ length bytes.new) }
 {

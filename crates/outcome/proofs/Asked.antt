@@ -7,13 +7,13 @@ use Prim.Native.Nat.{ℕ, ◌<◌}
 use native.Mathlib.Omega.{arith}
 use Rattle.outcome.specs.declared.Outcome.{Outcome}
 use Rattle.outcome.specs.declared.Refusal.{Refusal}
-use Rattle.outcome.specs.declared.Refusal.TheVariants.{Words, Limit, Position, Value, Order, Shape, Assigned, Length, Column, Row, Point, Given, Equality, Bytes}
+use Rattle.outcome.specs.declared.Refusal.TheVariants.{Extent, Limit, Position, Value, Order, Shape, Assigned, Length, Column, Row, Point, Given, Equality, Bytes}
 use Rattle.outcome.specs.Verdict.{fine, outcome, told, Accepted, Refused, require, ◌and_then◌}
 use Rattle.outcome.proofs.Verdict.{accepted_or_refused, goes_on, stops, passes, fails}
 
 -- no refusal has number 0
 pub positive : (r : Refusal) → 0 < (told r).number
-positive (Words place) = omega arith
+positive (Extent place) = omega arith
 positive (Limit place) = omega arith
 positive (Position place) = omega arith
 positive (Value place) = omega arith

@@ -3,7 +3,7 @@
 use Rattle.std.specs.Prelude.{Result, Ok, Err, ⊤, Bool, true, false, ◌&&◌, List, ◌≡◌, ℕ, zero, suc, ◌<◌, ◌≤◌, leb}
 use Rattle.outcome.specs.declared.Outcome.{Outcome}
 use Rattle.outcome.specs.declared.Refusal.{Refusal}
-use Rattle.outcome.specs.declared.Refusal.TheVariants.{Words, Limit, Position, Value, Order, Shape, Assigned, Length, Column, Row, Point, Given, Equality, Bytes}
+use Rattle.outcome.specs.declared.Refusal.TheVariants.{Extent, Limit, Position, Value, Order, Shape, Assigned, Length, Column, Row, Point, Given, Equality, Bytes}
 
 abbrev pub outcome : ℕ → ℕ → Outcome
 outcome number place = record { number = number; place = place }
@@ -33,7 +33,7 @@ pub record Within (low x high : ℕ) : Type 0 where
 
 -- RULES 6: the number and place of each refusal
 abbrev pub told : Refusal → Outcome
-told (Words place) = outcome 1 place
+told (Extent place) = outcome 1 place
 told (Limit place) = outcome 2 place
 told (Position place) = outcome 3 place
 told (Value place) = outcome 4 place

@@ -15,7 +15,7 @@ pub struct Outcome {
 #[derive(Clone, Copy, Debug, PartialEq, Eq)]
 pub enum Refusal {
     // 1: the words end before the circuit does, or go on behind it.
-    Words(usize),
+    Extent(usize),
     // 2: m, n, q or a number of entries is out of range.
     Limit(usize),
     // 3: an entry's row or column is out of range.
@@ -49,7 +49,7 @@ impl From<Refusal> for Outcome {
 
     fn from(r: Refusal) -> Outcome {
         let (number, place) = match r {
-            Refusal::Words(place) => (1, place),
+            Refusal::Extent(place) => (1, place),
             Refusal::Limit(place) => (2, place),
             Refusal::Position(place) => (3, place),
             Refusal::Value(place) => (4, place),

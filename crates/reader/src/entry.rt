@@ -18,11 +18,11 @@ fn ranges_verdict(m: u32, n: u32, entry: Entry, at: usize) -> Result<(), Refusal
     require(within(1, entry.value, field::MINUS_ONE), Refusal::Value(at))
 }
 
-// By row, then column.
+// By row, then column, as the definition has it.
 fn above(entry: Entry, before: Entry) -> bool
     ensures { result ≡ Rattle.circuit.specs.Reader.above entry.row entry.column before.row before.column }
 {
-    (before.row, before.column) < (entry.row, entry.column)
+    before.row < entry.row || before.row == entry.row && before.column < entry.column
 }
 
 // Entry e of the section whose count stands at `start` is above the one before it.

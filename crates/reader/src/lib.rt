@@ -22,12 +22,13 @@ fn sections_verdict(words: &[u32]) -> Result<(), Refusal>
     let mut start = 3;
     'sections: {
         for matrix in 0..MATRICES {
-            require(start < size, Refusal::Words(size))?;
+            require(start < size, Refusal::Extent(size))?;
             let entries = words[start] as usize;
             let end = start + 1 + 3 * entries;
             require(entries <= MOST_ENTRIES, Refusal::Limit(start))?;
-            require(end <= size, Refusal::Words(size))?;
+            require(end <= size, Refusal::Extent(size))?;
             for e in 0..entries {
+                // By the label: DECISIONS holds this place to it.
                 let found = entry::entry_verdict(words, start, e);
                 if found.is_err() {
                     break 'sections found;
@@ -54,7 +55,7 @@ fn counts_verdict(m: u32, q: u32, n: u32) -> Result<(), Refusal>
 pub fn prefix_verdict(words: &[u32]) -> Result<(), Refusal>
     ensures { outcome_of result ≡ prefix_verdict p words.now }
 {
-    require(3 <= words.len(), Refusal::Words(words.len()))?;
+    require(3 <= words.len(), Refusal::Extent(words.len()))?;
     counts_verdict(words[0], words[1], words[2])?;
     sections_verdict(words)
 }
@@ -79,5 +80,5 @@ pub fn circuit_verdict(words: &[u32]) -> Result<(), Refusal>
 {
     prefix_verdict(words)?;
     let end = section_start(words, MATRICES);
-    require(end == words.len(), Refusal::Words(words.len()))
+    require(end == words.len(), Refusal::Extent(words.len()))
 }

@@ -25,7 +25,7 @@ fn write_answers(r: FourAnswers, out: &mut [u8])
 
 // 10, then the answers.
 #[tactic(auto, using(outcome::proofs::Asked::asked))]
-fn answers_of(
+fn answer_parts(
     circuit: &[u32],
     values: &[u32],
     d: Blinders,
@@ -47,7 +47,7 @@ fn answers_words(words: &[u32], out: &mut [u8]) -> Result<(), Refusal>
 {
     let job = job_file::read(words)?;
     refusals::length_verdict(out.len(), ANSWERS_BYTES)?;
-    answers_of(
+    answer_parts(
         &words[..job.circuit],
         &words[job.circuit..job.assignment],
         job.d,

@@ -10,7 +10,7 @@ mod checking;
 
 use outcome::Outcome;
 
-// Number and place as one integer. No place is above the number of words.
+// Number and place as one integer; a place by `as`, for there is no From between usize and u64. No place is above the number of words.
 fn integer(o: Outcome) -> u64
     requires { o.place ≤ job_words }
     ensures { result ≡ Rattle.rowprover.specs.Exports.integer o }

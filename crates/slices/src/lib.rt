@@ -21,14 +21,14 @@ pub fn room() -> [u32; ROOM]
     room_of()
 }
 
-// All words 0.
+// All words 0. The library's, under the name that CONTRACTS lists.
 pub fn clear(out: &mut [u32])
     ensures { out.new ≡ zeros (length out.old) }
 {
     out.fill(0);
 }
 
-// The words of src into as many words.
+// The words of src into as many words. The library's, under the name that CONTRACTS lists.
 pub fn copy(src: &[u32], dst: &mut [u32])
     requires { length dst.old ≡ length src.now }
     ensures { dst.new ≡ src.now }

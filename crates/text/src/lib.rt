@@ -5,7 +5,7 @@
 ghost use Rattle.std.specs.Prelude.{◌≡◌, [], ◌∷◌, ◌++◌, ◌+◌, ◌<◌, ◌≤◌, length};
 ghost use Rattle.text.specs.Text.{decimal, line, number_room, line_room, two_room, Appended};
 
-// Lent bytes, written up to `end`.
+// Lent bytes, written up to `end`: a cursor and no String, for the product allocates nothing.
 #[derive(Drop)]
 struct Text<'a> {
     bytes: &'a mut [u8],
@@ -13,6 +13,7 @@ struct Text<'a> {
 }
 
 impl<'a> Text<'a> {
+    // One byte behind the text.
     fn put(&mut self, byte: u8)
         requires { self.old.end < length self.old.bytes.now }
         ensures same { self.new.bytes.ghost_name ≡ self.old.bytes.ghost_name }
@@ -23,7 +24,7 @@ impl<'a> Text<'a> {
         self.end += 1;
     }
 
-    // The digits of n, highest first. By hand: what the library prints without a heap, by `write!` or as an `InlineText`, may fail
+    // The digits of n, highest first; a digit fits a byte, so it goes there by `as`. By hand: what the library prints without a heap, by `write!` or as an `InlineText`, may fail
     // or be cut, and no contract says that it is neither where there is room, as `put_line` and `put_two` ensure.
     #[tactic(auto, using(crate::proofs::TextLaws::sizes))]
     fn put_decimal(&mut self, n: usize)

@@ -8,8 +8,8 @@ use Rattle.job_file.proofs.ReadParts.{read_accepted, read_lent}
 use Rattle.rowprover.specs.Exports.{answers_bytes}
 use Rattle.rowprover.proofs.answering.answers_words.Goals as goal
 
-pub answers_of-requires : goal.answers_of-requires
-answers_of-requires c =
+pub answer_parts-requires : goal.answer_parts-requires
+answer_parts-requires c =
     let read = c.in_ok-job.ensures in
     let all = read_accepted _ _ read in
     let lent = read_lent _ _ read in
