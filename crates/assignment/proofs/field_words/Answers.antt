@@ -9,4 +9,4 @@ pub returns-clause-verdict : goal.returns-clause-verdict
 returns-clause-verdict c number first l = none_faulty field_prime number first _ l (λ k inside. c.loop-i.invariant k (search rules))
 
 pub returns-then-word-gt-MINUS_ONE-clause-verdict : goal.returns-then-word-gt-MINUS_ONE-clause-verdict
-returns-then-word-gt-MINUS_ONE-clause-verdict c number first l = first_faulty field_prime number first _ _ l (search rules) c.if-word-gt-MINUS_ONE.true c.loop-i.invariant
+returns-then-word-gt-MINUS_ONE-clause-verdict c number first l = first_faulty field_prime number first _ _ l (search rules) (omega (arith, c.if-word-gt-MINUS_ONE.true)) c.loop-i.invariant
