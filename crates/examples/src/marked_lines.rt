@@ -17,14 +17,6 @@ const BLINDERS: Blinders = Blinders {
     third: 3,
 };
 
-// What is printed beside a refusal.
-const NO_ANSWERS: FourAnswers = FourAnswers {
-    first: 0,
-    second: 0,
-    third: 0,
-    fourth: 0,
-};
-
 fn target(m: u32, out: &mut [u32]) {
     let o = target::target(m, out);
     call_line(o, out);
@@ -67,7 +59,7 @@ fn one_row(private: u32) {
 
 fn answers(s: u32) {
     let found = answers::answers(&K, &ASSIGNMENT, BLINDERS, s);
-    let r = found.unwrap_or(NO_ANSWERS);
+    let r = answers::told_answers(found);
     call_line(found.map(|_| ()), &[r.first, r.second, r.third, r.fourth]);
 }
 
