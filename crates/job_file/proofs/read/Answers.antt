@@ -1,6 +1,6 @@
 -- A circuit that was refused decides; else the words up to its end are one, and what follows it decides.
 use mathlib.Core.List.{List}
-use mathlib.Core.Path.{◌≡◌, sym, ◌∙◌}
+use mathlib.Core.Path.{◌≡◌, refl, sym, ◌∙◌}
 use Prim.Native.Nat.{ℕ, ◌+◌, ◌-◌, ◌≤◌, ◌<◌}
 use Rattle.std.specs.Prelude.{Result, Ok, Err}
 use Rattle.outcome.specs.declared.Refusal.{Refusal}
@@ -9,8 +9,8 @@ use borrow.Author.Rules.{rules}
 use lib.ListN.{length, take, drop, length-drop}
 use lib.Seq.{length-take-le, get_or-drop, drop-drop}
 use Rattle.outcome.specs.declared.Outcome.{Outcome}
-use Rattle.outcome.specs.Verdict.{outcome_of, Accepted}
-use Rattle.outcome.proofs.Verdict.{goes_on}
+use Rattle.outcome.specs.Verdict.{outcome_of, Accepted, Refused}
+use Rattle.outcome.proofs.Verdict.{goes_on, not_both}
 use Rattle.outcome.proofs.Asked.{asked}
 use Rattle.circuit.specs.Circuit.{word, columns, ending, leading}
 use Rattle.circuit.specs.Reader.{prefix_verdict}
@@ -29,7 +29,7 @@ use Rattle.job_file.proofs.read.Goals.{In_ok-prefix_verdict, After-columns_of, A
 
 refusal : {w : List ℕ} (r : Result Job Refusal) → outcome_of r ≡ file_verdict w → 0 < (outcome_of r).number → Read w r
 refusal (Ok j) e l = absurd (omega arith)
-refusal (Err f) e l = record { number_and_place = e; split = tt }
+refusal (Err f) e l = record { number_and_place = e; split = tt; none = λ h. refl }
 
 module _ (w : List ℕ) where
   module _ {end : ℕ} (begun : Accepted (prefix_verdict p w)) (at : end ≡ ending w) where
@@ -95,6 +95,7 @@ returns c =
         blinders = c.blinders_in.ensures ∙ blinders _ last;
         point = point _ last;
       };
+      none = λ (h : Refused (file_verdict c.args.words.now)). absurd (not_both (record { is_zero = grind (arith, asked) }) h);
     }
 
 pub section_start-end-requires : goal.section_start-end-requires
