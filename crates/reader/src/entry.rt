@@ -18,11 +18,18 @@ fn ranges_verdict(m: u32, n: u32, entry: Entry, at: usize) -> Result<(), Refusal
     require(within(1, entry.value, field::MINUS_ONE), Refusal::Value(at))
 }
 
-// By row, then column, as the definition has it.
+// By row, then column. In three steps: as one expression, which is the definition's form, the compiler makes a loop over entries of it that
+// takes two fifths more time.
 fn above(entry: Entry, before: Entry) -> bool
     ensures { result ≡ Rattle.circuit.specs.Reader.above entry.row entry.column before.row before.column }
 {
-    before.row < entry.row || before.row == entry.row && before.column < entry.column
+    if before.row < entry.row {
+        return true;
+    }
+    if entry.row < before.row {
+        return false;
+    }
+    before.column < entry.column
 }
 
 // Entry e of the section whose count stands at `start` is above the one before it.
