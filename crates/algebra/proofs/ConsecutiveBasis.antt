@@ -29,7 +29,7 @@ target-append p (x ∷ xs) ys s =
     ≈_trans (target-value p x (xs ++ ys) s)
     (by (≈-plus (≈-times k (target-append p xs ys s)) (≈-times (value (target p ys) s) (≈_sym (target-value p x xs s)))) (omega arith))
 
-consecutive-last : (x m : ℕ) → consecutive x (suc m) ≡ consecutive x m ++ ((x + m) ∷ [])
+pub consecutive-last : (x m : ℕ) → consecutive x (suc m) ≡ consecutive x m ++ ((x + m) ∷ [])
 unfolding consecutive
 consecutive-last x zero = rw (add-zero x)
 consecutive-last x (suc m) = ap (λ (l : List ℕ). x ∷ l) (consecutive-last (suc x) m ∙ rw (add-suc x m, suc-add x m))

@@ -20,16 +20,22 @@ product_assoc f g h φ = simp pairing-product (λ t. pairing f (λ i. pairing g 
 pub product-sum_left : (f g h : List ℕ) (φ : ℕ → ℕ) → pairing (product (sum f g) h) φ ≡ pairing (product f h) φ + pairing (product g h) φ
 product-sum_left f g h φ = simp (pairing-product, pairing-sum)
 
+pub product-multiple_left : (k : ℕ) (f h : List ℕ) (φ : ℕ → ℕ) → pairing (product (multiple k f) h) φ ≡ k * pairing (product f h) φ
+product-multiple_left k f h φ = simp (pairing-product, pairing-multiple)
+
 pub product-sum-right : (h f g : List ℕ) (φ : ℕ → ℕ) → pairing (product h (sum f g)) φ ≡ pairing (product h f) φ + pairing (product h g) φ
 product-sum-right h f g φ = rw (product_swap h (sum f g) φ, product_swap h f φ, product_swap h g φ) (product-sum_left f g h φ)
 
 pub product-multiple-right : (k : ℕ) (h f : List ℕ) (φ : ℕ → ℕ) → pairing (product h (multiple k f)) φ ≡ k * pairing (product h f) φ
-product-multiple-right k h f φ = rw (product_swap h (multiple k f) φ, product_swap h f φ) (simp (pairing-product, pairing-multiple))
+product-multiple-right k h f φ = rw (product_swap h (multiple k f) φ, product_swap h f φ) (product-multiple_left k f h φ)
 
 -- times a constant
-pub product-one : (c : ℕ) (h : List ℕ) (φ : ℕ → ℕ) → pairing (product (c ∷ []) h) φ ≡ c * pairing h φ
+pub product_constant : (h : List ℕ) (c : ℕ) (φ : ℕ → ℕ) → pairing (product h (c ∷ [])) φ ≡ c * pairing h φ
 unfolding pairing
-product-one c h φ = simp (pairing-product, zero-add) (omega arith)
+product_constant h c φ = rw (product_swap h (c ∷ []) φ) (simp (pairing-product, zero-add) (omega arith))
+
+pub product-one : (c : ℕ) (h : List ℕ) (φ : ℕ → ℕ) → pairing (product (c ∷ []) h) φ ≡ c * pairing h φ
+product-one c h φ = rw (product_swap (c ∷ []) h φ) (product_constant h c φ)
 
 pub product-same : {p : ℕ} (h f g : List ℕ) → f ≋⟨ p ⟩ g → product h f ≋⟨ p ⟩ product h g
 product-same h f g e = by_pairings (λ φ.

@@ -37,6 +37,7 @@ place_fits m h = omega (arith, mul-le-mul_right m h)
 
 -- the first t places of words for `count` columns are written
 pub record WrittenUpTo (p : ℕ) (c : List ℕ) (matrix first count : ℕ) (f : List ℕ) (t : ℕ) : Type 0 where
+  pub within : t ≤ count
   pub size : length f ≡ count * rows c
   pub column : (k : ℕ) → k < t → Column (row_setting p) c matrix (first + k) (take (rows c) (drop (k * rows c) f))
 
@@ -47,6 +48,7 @@ one_more {p} {c} {matrix} {first} {count} {f} {t} {new} h l is_column =
     let fits : t * rows c + rows c ≤ length f = omega (arith, place_fits (rows c) l, h.size) in
     let size : length new ≡ rows c = is_column.size ∙ length-row_points (rows c) in
     record {
+      within = omega arith;
       size = middle_size (t * rows c) (rows c) f new fits size ∙ h.size;
       column = λ k below. ⊎_elim
           (λ (here : k ≡ t). rw (here, middle_there (t * rows c) (rows c) f new fits size) is_column)

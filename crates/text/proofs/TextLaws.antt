@@ -4,7 +4,7 @@ use mathlib.Core.List.{List, [], ◌∷◌, ◌++◌, append_assoc}
 use mathlib.Core.Path.{◌≡◌, refl, sym, ◌∙◌, ap}
 use mathlib.Core.Logic.{⊎_elim}
 use Prim.Native.Nat.{ℕ, zero, suc, ◌+◌, ◌-◌, ◌*◌, ◌/◌, ◌%◌, ◌^◌, ◌<◌, ◌≤◌}
-use native.Mathlib.Nat.{eq-or-lt_of_le}
+use native.Mathlib.Nat.{pow-suc, eq-or-lt_of_le}
 use native.Mathlib.Omega.{arith}
 use lib.Dec.{ltb}
 use lib.Seq.{drop-drop, get_or-append_seam, length-take-le}
@@ -12,7 +12,7 @@ use lib.ListN.{length, get_or, take, drop, length-append, get_or-append, take-ap
 use borrow.Author.Tests.{ltb-true, ltb-false, lt-ltb, le-ltb}
 use Rattle.std.specs.Fmt.{decimal as printed}
 use Rattle.std.specs.List.{flat_map}
-use Rattle.std.proofs.lemmas.Fmt.{decimal_by_steps, length-decimal-le}
+use Rattle.std.proofs.lemmas.Fmt.{decimal_by_steps}
 use Rattle.std.proofs.lemmas.List.{take_more, take_all, flat_map_more}
 use Rattle.text.specs.Text.{digits, decimal, line, Kept, Appended}
 
@@ -73,9 +73,18 @@ pub ruleset sizes = (size_one, size_more)
 pub decimal-printed : (n : ℕ) → n < 2 ^ 64 → decimal n ≡ printed n
 decimal-printed = decimal_by_steps (λ n ds. decimal n ≡ ds) decimal-one (λ n ds h e. rw (decimal-more n h, e))
 
+-- a number below 10 ^ (k + 1) has at most k + 1 digits
+pub decimal-length : (n k : ℕ) → n < 10 ^ suc k → length (decimal n) ≤ suc k
+decimal-length = by_digits (λ n ds. (k : ℕ) → n < 10 ^ suc k → length ds ≤ suc k) (λ n h k l. omega arith) more
+  where
+    more : (n : ℕ) (ds : List ℕ) → 10 ≤ n → ((k : ℕ) → n / 10 < 10 ^ suc k → length ds ≤ suc k) →
+        (k : ℕ) → n < 10 ^ suc k → length (ds ++ ((48 + n % 10) ∷ [])) ≤ suc k
+    more n ds h next zero l = omega arith
+    more n ds h next (suc k) l = simp length-append (omega (arith, next k (omega (arith, pow-suc 10 (suc k)))))
+
 -- a number of 64 bits
 pub digits_64 : (n : ℕ) → n < 2 ^ 64 → length (decimal n) ≤ 20
-digits_64 n h = rw (decimal-printed n h) (length-decimal-le 20 n (omega arith) (omega arith) h)
+digits_64 n h = decimal-length n 19 (omega arith)
 
 -- the number that digits stand for, behind a number a read so far
 pub read_back : ℕ → List ℕ → ℕ

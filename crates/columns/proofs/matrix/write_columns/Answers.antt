@@ -3,6 +3,7 @@ use mathlib.Core.List.{List}
 use mathlib.Core.Path.{◌≡◌, ◌∙◌}
 use native.Mathlib.Nat.{mul-le-mul}
 use native.Mathlib.Omega.{arith}
+use borrow.Author.Rules.{rules}
 use borrow.Rule.Slice.PartMut.{mid_len}
 use lib.ListN.{length}
 use Rattle.circuit.specs.Circuit.{rows}
@@ -14,7 +15,7 @@ use Rattle.columns.proofs.ColumnLaws.{WrittenUpTo, place_fits, one_more}
 use Rattle.columns.proofs.matrix.write_columns.Goals as goal
 
 pub loop-t-init : goal.loop-t-init
-loop-t-init c = record { size = c.requires.columns_room.size; column = λ k l. absurd (omega arith) }
+loop-t-init c = record { within = search rules; size = c.requires.columns_room.size; column = λ k l. absurd (omega arith) }
 
 -- the place lent next
 inside : {c : List ℕ} {matrix first count m t : ℕ} {out : List ℕ} →
