@@ -9,7 +9,8 @@ use lib.Dec.{leb, lit<}
 use lib.ListN.{length}
 use Rattle.outcome.specs.declared.Outcome.{Outcome}
 use Rattle.outcome.specs.Verdict.{fine, outcome, Accepted, Refused, require}
-use Rattle.outcome.proofs.Verdict.{accepted-both, accepted-parts, accepted-require, require-accepted, accepted-first, accepted-each, taken, fails, first-refused, Proper, proper-require, proper-and_then, proper-first}
+use Rattle.outcome.proofs.Verdict.{accepted-both, accepted-parts, accepted-require, require-accepted, accepted-first, accepted-each, taken, fails, Proper, proper-require, proper-and_then, proper-first}
+use Rattle.outcome.proofs.Scan.{stop, end}
 use Rattle.algebra.specs.Prime.{FieldPrime}
 use Rattle.circuit.specs.Circuit.{word}
 use Rattle.circuit.specs.WellFormed.{WellFormed}
@@ -44,7 +45,7 @@ module _ {p : ℕ} (field : FieldPrime p) where
   unfolding words_verdict
   none_faulty number first a l below =
       let all = accepted-first (each p number first a) (length a) (λ i inside. accepted-require number (first + i) (le-leb (word a i) (p - 1) (below i inside))) in
-      sym ((proper-first (each p number first a) (length a) (λ i inside. proper-require _ _ _ l)).fine_if_accepted all)
+      end (each p number first a) (length a) (record { within = omega arith; accepted = all }) (omega arith) (λ i inside. proper-require _ _ _ l)
 
   pub first_faulty : (number first i : ℕ) (a : List ℕ) → 0 < number → i < length a → p - 1 < word a i → ((k : ℕ) → k < i → word a k ≤ p - 1) →
       outcome number (first + i) ≡ words_verdict p number first a
@@ -53,7 +54,7 @@ module _ {p : ℕ} (field : FieldPrime p) where
       let fault : each p number first a i ≡ outcome number (first + i) = fails number (first + i) (lt-leb (word a i) (p - 1) above) in
       let refused : Refused (each p number first a i) = record { is_positive = rw fault l } in
       let passed = accepted-first (each p number first a) i (λ k earlier. accepted-require number (first + k) (le-leb (word a k) (p - 1) (below k earlier))) in
-      sym (first-refused (each p number first a) i (length a) passed refused inside ∙ fault)
+      stop (each p number first a) (length a) (record { within = omega arith; accepted = passed }) inside refused (sym fault)
 
   pub values_formed : (a : List ℕ) → Accepted (values_verdict p a) → ValuesFormed p a
   unfolding values_verdict

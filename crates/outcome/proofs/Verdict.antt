@@ -183,7 +183,7 @@ pub refused_old : {o : Outcome} (new old : List ℕ) → Refused o → when_acce
 unfolding when_accepted
 refused_old {o} new old h = other o.number new old h.is_positive
 
--- in code checks are chained from the left, in definitions from the right
+-- checks in a row may be grouped in any way
 pub and_then_assoc : (a b c : Outcome) → (a and_then b) and_then c ≡ a and_then (b and_then c)
 and_then_assoc a b c = ⊎_elim
     (λ (h : Accepted a). rw (goes_on b h, goes_on (b and_then c) h))

@@ -1,4 +1,4 @@
--- What loops over a slice share, beside slices' `Front`: a part lent from i on; a loop down, which keeps the words done behind and
+-- What loops over a slice share: a part lent from i on; a loop down, which keeps the words done behind and
 -- has the words `take i l` still to do in front of them. And two words made of congruent parts are equal.
 use mathlib.Core.Path.{◌≡◌}
 use mathlib.Core.List.{List, ◌∷◌, ◌++◌, append_assoc, append-nil}

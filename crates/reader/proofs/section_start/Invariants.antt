@@ -1,4 +1,4 @@
--- Invariant: `start` is where section k begins, and k is at most the section asked for. Each count read is there, and small.
+-- Invariant: `start` is where section k begins.
 use mathlib.Core.List.{List}
 use mathlib.Core.Path.{◌≡◌}
 use Prim.Native.Nat.{ℕ, ◌-◌, ◌≤◌}
