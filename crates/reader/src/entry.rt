@@ -18,8 +18,8 @@ fn ranges_verdict(m: u32, n: u32, entry: Entry, at: usize) -> Result<(), Refusal
     require(within(1, entry.value, field::MINUS_ONE), Refusal::Value(at))
 }
 
-// By row, then column. In three steps: as one expression, which is the definition's form, the compiler makes a loop over entries of it that
-// takes two fifths more time.
+// By row, then column. In three steps: as one expression, which is the definition's form, a full circuit takes a tenth more instructions to
+// read and up to two fifths more time.
 fn above(entry: Entry, before: Entry) -> bool
     ensures { result ≡ Rattle.circuit.specs.Reader.above entry.row entry.column before.row before.column }
 {
